@@ -1,0 +1,5 @@
+pub mod Accepted
+pub mod Meetings
+pub mod Table
+pub mod Texts
+pub mod Walks

@@ -1,0 +1,7 @@
+pub mod Ranges
+pub mod Segment
+pub mod Loaded
+pub mod ProgramHeader
+pub mod Faults
+pub mod ElfFile
+pub mod MainVars

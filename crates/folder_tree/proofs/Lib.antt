@@ -1,0 +1,4 @@
+pub mod PathLemmas
+pub mod MapLemmas
+pub mod FileLemmas
+pub mod CallLemmas

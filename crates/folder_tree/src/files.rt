@@ -1,0 +1,273 @@
+// A folder in memory with files in its root, whose listed calls fail.
+ghost use Rattle.std.specs.Prelude.{◌≡◌, ◌≤◌, ℕ, IfOk, IsTrue, OnErr, OnOk, Some, drop, length, take};
+ghost use Rattle.std.specs.Option.{option_copied};
+ghost use Rattle.fe_base.specs.Memory.{NoneFrom, counted, is_listed};
+ghost use Rattle.folder_tree.specs.Tree.{IsWellFormed, Tree, empty_tree, file_of};
+ghost use Rattle.folder_tree.specs.TreeOps.{IsFreeNumber, kind_row, open_row, read_row, release_row, size_row, with_file};
+ghost use Rattle.folder_tree.specs.Answers.{Answers, HasCauses, StaysSteady, Suits, bytes_read};
+ghost use Rattle.folder_tree.specs.FilesFolder.{Called, HasCounts, is_free_name, refused};
+
+use crate::root_files::RootFiles;
+use crate::{Folder, FolderStop, Path, PathKind};
+use std::alloc::{AllocError, Global};
+use std::marker::Model;
+
+/// A folder in memory, with files in its root. Each call of a listed number fails; calls are
+/// counted from 0. Only `open_file` may want memory.
+#[derive(Drop)]
+pub struct FilesFolder {
+    tree: RootFiles,
+    calls: u64,
+    failing: Vec<u64>,
+    faults: u64,
+    short: u64,
+}
+
+impl Model for FilesFolder {
+    ghost use Rattle.folder_tree.specs.FilesFolder.{FilesState, state_code};
+
+    ghost Value = { FilesState };
+
+    ghost coded = { state_code };
+
+    ghost use Rattle.std.specs.Prelude.{◌<◌, ◌^◌};
+
+    ghost view = { λ f. record { tree = f.tree; calls = f.calls; failing = f.failing.items; faults = f.faults; short = f.short } };
+
+    ghost invariant = { λ f. (f.calls < 2 ^ 64) × (f.faults < 2 ^ 64) × (f.short < 2 ^ 64) };
+}
+
+impl FilesFolder {
+    /// A folder with nothing in its root, on which no call was made.
+    pub fn new(alloc: Global, failing: &[u64]) -> Result<FilesFolder, AllocError>
+        ensures { IfOk result (λ f. f ≡ record { tree = empty_tree; calls = 0; failing = failing.now; faults = 0; short = 0 }) }
+    {
+        Ok(FilesFolder {
+            tree: RootFiles::new(alloc),
+            calls: 0,
+            failing: failing.to_vec(alloc)?,
+            faults: 0,
+            short: 0,
+        })
+    }
+
+    /// Whether the path has one part and nothing stands there, so that a file can be put there.
+    pub fn can_put(&self, path: &Path) -> bool
+        ensures { result ≡ is_free_name self.now.tree path.now }
+    {
+        let Some((_part, more)) = path.first() else {
+            return false;
+        };
+        if more {
+            return false;
+        }
+        matches!(self.tree.kind(path), PathKind::Free)
+    }
+
+    /// Adds a file that isn't open. This is none of the counted calls.
+    pub fn put_file(&mut self, path: &Path, bytes: &[u8]) -> Result<(), AllocError>
+        requires { IsTrue (is_free_name self.old.tree path.now) }
+        ensures ok { OnOk result ((number : ℕ) × IsFreeNumber self.old.tree number
+            × (self.new ≡ record self.old { tree = with_file self.old.tree path.now number bytes.now })) }
+        ensures err { OnErr result (self.new ≡ self.old) }
+        ensures well_formed { IsWellFormed self.new.tree }
+    {
+        self.tree.add(path.text(), bytes)
+    }
+
+    /// What the file at a path holds; none exactly where the path is no file.
+    pub fn file(&self, path: &Path) -> Option<&[u8]>
+        ensures { option_copied result ≡ file_of self.now.tree path.now }
+    {
+        self.tree.file(path)
+    }
+
+    fn is_listed(&self) -> bool
+        ensures listed { result ≡ is_listed self.now.calls self.now.failing }
+        ensures counts { HasCounts self.now }
+    {
+        self.failing.contains(&self.calls)
+    }
+
+    fn refuse(&mut self) -> FolderStop
+        ensures stop { result ≡ FolderStop.Failed }
+        ensures state { self.new ≡ refused self.old }
+    {
+        self.calls = self.calls.saturating_add(1);
+        self.faults = self.faults.saturating_add(1);
+        FolderStop::Failed
+    }
+
+    fn want(&mut self) -> FolderStop
+        ensures stop { result ≡ FolderStop.NoMemory }
+        ensures state { self.new ≡ record self.old { calls = counted self.old.calls; short = counted self.old.short } }
+    {
+        self.calls = self.calls.saturating_add(1);
+        self.short = self.short.saturating_add(1);
+        FolderStop::NoMemory
+    }
+
+    fn pass(&mut self)
+        ensures { self.new ≡ record self.old { calls = counted self.old.calls } }
+    {
+        self.calls = self.calls.saturating_add(1);
+    }
+}
+
+// Moves bytes from a place on into the front of a buffer, and answers how many.
+fn move_bytes(bytes: &[u8], at: u64, into: &mut [u8]) -> usize
+    ensures bound { result ≤ length into.new }
+    ensures moved { take result into.new ≡ take (length into.old) (drop at bytes.now) }
+    ensures behind { drop result into.new ≡ drop result into.old }
+{
+    let rest = &bytes[bytes.len().min(at as usize)..];
+    let count = into.len().min(rest.len());
+    into[..count].copy_from_slice(&rest[..count]);
+    count
+}
+
+// Each call, by its row.
+impl FilesFolder {
+    fn try_kind(&mut self, path: &Path) -> Result<PathKind, FolderStop>
+        ensures called { Called self.old self.new (kind_row path.now self.old.tree) result }
+        ensures counts { HasCounts self.old }
+        ensures no_want { self.new.short ≡ self.old.short }
+    {
+        if self.is_listed() {
+            return Err(self.refuse());
+        }
+        let kind = self.tree.kind(path);
+        self.pass();
+        Ok(kind)
+    }
+
+    fn try_open(&mut self, path: &Path) -> Result<u64, FolderStop>
+        ensures called { Called self.old self.new (open_row path.now self.old.tree) result }
+        ensures counts { HasCounts self.old }
+    {
+        if self.is_listed() {
+            return Err(self.refuse());
+        }
+        let Some(number) = self.tree.number(path) else {
+            return Err(self.refuse());
+        };
+        if self.tree.open(number).is_err() {
+            return Err(self.want());
+        }
+        self.pass();
+        Ok(number)
+    }
+
+    fn try_size(&mut self, number: u64) -> Result<u64, FolderStop>
+        ensures called { Called self.old self.new (size_row number self.old.tree) result }
+        ensures counts { HasCounts self.old }
+        ensures no_want { self.new.short ≡ self.old.short }
+    {
+        if self.is_listed() {
+            return Err(self.refuse());
+        }
+        let Some(bytes) = self.tree.open_bytes(number) else {
+            return Err(self.refuse());
+        };
+        let size = bytes.len() as u64;
+        self.pass();
+        Ok(size)
+    }
+
+    fn try_read(&mut self, number: u64, at: u64, into: &mut [u8]) -> Result<usize, FolderStop>
+        ensures bound { IfOk result (λ n. n ≤ length into.new) }
+        ensures called { Called self.old self.new (read_row number at (length into.old) self.old.tree) (bytes_read result into.new) }
+        ensures counts { HasCounts self.old }
+        ensures behind { IfOk result (λ n. drop n into.new ≡ drop n into.old) }
+        ensures no_want { self.new.short ≡ self.old.short }
+    {
+        if self.is_listed() {
+            return Err(self.refuse());
+        }
+        let Some(bytes) = self.tree.open_bytes(number) else {
+            return Err(self.refuse());
+        };
+        let count = move_bytes(bytes, at, into);
+        self.pass();
+        Ok(count)
+    }
+
+    fn try_release(&mut self, number: u64) -> Result<(), FolderStop>
+        ensures called { Called self.old self.new (release_row number self.old.tree) result }
+        ensures counts { HasCounts self.old }
+        ensures no_want { self.new.short ≡ self.old.short }
+    {
+        if self.is_listed() || !self.tree.is_open(number) {
+            return Err(self.refuse());
+        }
+        self.tree.release(number);
+        self.pass();
+        Ok(())
+    }
+}
+
+impl Folder for FilesFolder {
+    ghost tree = { λ f. Some f.tree };
+
+    ghost faults = { λ f. f.faults };
+
+    ghost short = { λ f. f.short };
+
+    ghost steady = { λ f. NoneFrom f.calls f.failing };
+
+    fn kind(&mut self, path: &Path) -> Result<PathKind, FolderStop>
+        ensures tree { Answers (Some self.old.tree) (Some self.new.tree) (kind_row path.now) result }
+        ensures cause { HasCauses self.old.faults self.new.faults self.old.short self.new.short result }
+        ensures steady { NoneFrom self.old.calls self.old.failing → Suits (Some self.old.tree) (kind_row path.now)
+            → StaysSteady self.old.faults self.new.faults result (NoneFrom self.new.calls self.new.failing) }
+        ensures called { Called self.old self.new (kind_row path.now self.old.tree) result }
+        ensures no_want { self.new.short ≡ self.old.short }
+    {
+        self.try_kind(path)
+    }
+
+    fn open_file(&mut self, path: &Path) -> Result<u64, FolderStop>
+        ensures tree { Answers (Some self.old.tree) (Some self.new.tree) (open_row path.now) result }
+        ensures cause { HasCauses self.old.faults self.new.faults self.old.short self.new.short result }
+        ensures steady { NoneFrom self.old.calls self.old.failing → Suits (Some self.old.tree) (open_row path.now)
+            → StaysSteady self.old.faults self.new.faults result (NoneFrom self.new.calls self.new.failing) }
+        ensures called { Called self.old self.new (open_row path.now self.old.tree) result }
+    {
+        self.try_open(path)
+    }
+
+    fn size(&mut self, number: u64) -> Result<u64, FolderStop>
+        ensures tree { Answers (Some self.old.tree) (Some self.new.tree) (size_row number) result }
+        ensures cause { HasCauses self.old.faults self.new.faults self.old.short self.new.short result }
+        ensures steady { NoneFrom self.old.calls self.old.failing → Suits (Some self.old.tree) (size_row number)
+            → StaysSteady self.old.faults self.new.faults result (NoneFrom self.new.calls self.new.failing) }
+        ensures called { Called self.old self.new (size_row number self.old.tree) result }
+        ensures no_want { self.new.short ≡ self.old.short }
+    {
+        self.try_size(number)
+    }
+
+    fn read_at(&mut self, number: u64, at: u64, into: &mut [u8]) -> Result<usize, FolderStop>
+        ensures bound { IfOk result (λ n. n ≤ length into.new) }
+        ensures tree { Answers (Some self.old.tree) (Some self.new.tree) (read_row number at (length into.old)) (bytes_read result into.new) }
+        ensures behind { (t : Tree) → Some self.old.tree ≡ Some t → IfOk result (λ n. drop n into.new ≡ drop n into.old) }
+        ensures cause { HasCauses self.old.faults self.new.faults self.old.short self.new.short result }
+        ensures steady { NoneFrom self.old.calls self.old.failing → Suits (Some self.old.tree) (read_row number at (length into.old))
+            → StaysSteady self.old.faults self.new.faults result (NoneFrom self.new.calls self.new.failing) }
+        ensures called { Called self.old self.new (read_row number at (length into.old) self.old.tree) (bytes_read result into.new) }
+        ensures no_want { self.new.short ≡ self.old.short }
+    {
+        self.try_read(number, at, into)
+    }
+
+    fn release(&mut self, number: u64) -> Result<(), FolderStop>
+        ensures tree { Answers (Some self.old.tree) (Some self.new.tree) (release_row number) result }
+        ensures cause { HasCauses self.old.faults self.new.faults self.old.short self.new.short result }
+        ensures steady { NoneFrom self.old.calls self.old.failing → Suits (Some self.old.tree) (release_row number)
+            → StaysSteady self.old.faults self.new.faults result (NoneFrom self.new.calls self.new.failing) }
+        ensures called { Called self.old self.new (release_row number self.old.tree) result }
+        ensures no_want { self.new.short ≡ self.old.short }
+    {
+        self.try_release(number)
+    }
+}

@@ -1,0 +1,5 @@
+pub mod AreaLemmas
+pub mod BusLemmas
+pub mod MemoryLemmas
+pub mod PartLemmas
+pub mod Steps

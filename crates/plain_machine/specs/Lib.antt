@@ -1,0 +1,5 @@
+pub mod UserStep
+pub mod CallTable
+pub mod Messages
+pub mod Direct
+pub mod Machines

@@ -1,0 +1,234 @@
+// What a user program sees of the hart, and its steps.
+ghost use Rattle.std.specs.Prelude.{◌≡◌, ◌<◌, ◌-◌, ◌^◌, length, IsTrue, IsSome, IsNone, IfSome, false, take, drop, slice_set};
+ghost use Rattle.fe_base.specs.MemoryMap.{user_start, kernel_start};
+ghost use Rattle.guest_memory.specs.Bus.{is_ram};
+ghost use Rattle.guest_memory.specs.Memory.{is_width, zeros};
+ghost use Rattle.rv_alu.specs.Effects.{IsInRange};
+ghost use Rattle.plain_machine.specs.CallTable.{is_buffer};
+ghost use Rattle.plain_machine.specs.Direct.{answered};
+ghost use Rattle.plain_machine.specs.UserStep as spec;
+ghost use Rattle.plain_machine.specs.UserStep.{user_step, carried, cause_number, made, Stays};
+
+use fe_base::memory_map::{USER_END, USER_START};
+use guest_memory::Bus;
+use rv_alu::{Effect, act, loaded, put};
+use rv_decode::decode;
+use std::marker::Model;
+
+/// Why a trap is taken.
+#[derive(Clone, Copy)]
+pub enum Cause {
+    /// A jump to an address that is no multiple of 4; the value is that address.
+    Misaligned,
+    /// An instruction with a byte outside the user area; the value is the first such address.
+    FetchAccess,
+    /// A word that is no instruction of a user program; the value is the word.
+    Illegal,
+    /// EBREAK; the value is its address.
+    Breakpoint,
+    /// A load with a byte outside the user area; the value is the first such address.
+    LoadAccess,
+    /// A store with a byte outside the user area; the value is the first such address.
+    StoreAccess,
+}
+
+impl Cause {
+    /// The number that the Privileged ISA gives to the cause (3.1.15, mcause).
+    pub fn number(self) -> u8
+        ensures value { result ≡ cause_number self }
+        ensures small { result < 16 }
+    {
+        match self {
+            Cause::Misaligned => 0,
+            Cause::FetchAccess => 1,
+            Cause::Illegal => 2,
+            Cause::Breakpoint => 3,
+            Cause::LoadAccess => 5,
+            Cause::StoreAccess => 7,
+        }
+    }
+}
+
+/// What a user step did.
+#[derive(Clone, Copy)]
+pub enum Outcome {
+    /// The instruction was done.
+    Moved,
+    /// It is a system call, which is left to be done; nothing has changed.
+    Called,
+    /// It is a trap; nothing has changed.
+    Trapped { cause: Cause, value: u64 },
+}
+
+/// pc, the 32 registers, and the bus, of which a user program sees the user area.
+#[derive(Drop)]
+pub struct Cpu {
+    pc: u64,
+    registers: [u64; 32],
+    bus: Bus,
+}
+
+impl Model for Cpu {
+    ghost use Rattle.std.specs.Prelude.{◌≡◌, slice_index};
+    ghost use Rattle.plain_machine.specs.UserStep.{UserState};
+
+    ghost Value = { UserState };
+
+    ghost view = { λ c. record { pc = c.pc; registers = c.registers; user = c.bus.user } };
+
+    ghost invariant = { λ c. slice_index c.registers 0 ≡ 0 };
+}
+
+// The first byte of an access that is not of the user area.
+#[inline(always)]
+#[tactic(auto, using(crate::proofs::Places::outside_lemmas))]
+fn outside(at: u64, count: usize) -> Option<u64>
+    requires { IsTrue (is_width count) }
+    ensures byte { result ≡ spec.outside at count }
+    ensures inside { IsNone result → IsTrue (is_ram at count) }
+    ensures user { IsNone result → at < kernel_start }
+{
+    if at < USER_START || at >= USER_END {
+        Some(at)
+    } else if count as u64 > USER_END - at {
+        Some(USER_END)
+    } else {
+        None
+    }
+}
+
+#[inline(always)]
+fn trapped(cause: Cause, value: u64) -> Outcome
+    ensures { result ≡ Outcome.Trapped cause value }
+{
+    Outcome::Trapped { cause, value }
+}
+
+#[tactic(auto, unfolding(guest_memory::specs::Memory::zeros))]
+fn first_registers(sp: u64) -> [u64; 32]
+    ensures { result ≡ slice_set (zeros 32) 2 sp }
+{
+    let mut registers = [0; 32];
+    registers[2] = sp;
+    registers
+}
+
+impl Cpu {
+    /// A program at its start: at the entry, with sp set and every other register 0.
+    #[tactic(auto, unfolding(guest_memory::specs::Memory::zeros))]
+    pub fn new(entry: u64, sp: u64, bus: Bus) -> Cpu
+        ensures { result ≡ record { pc = entry; registers = slice_set (zeros 32) 2 sp; user = bus.user } }
+    {
+        Cpu {
+            pc: entry,
+            registers: first_registers(sp),
+            bus,
+        }
+    }
+
+    /// The address of the next instruction.
+    pub fn pc(&self) -> u64
+        ensures { result ≡ self.now.pc }
+    {
+        self.pc
+    }
+
+    /// Register n, which is below 32.
+    #[inline(always)]
+    pub fn register(&self, n: u8) -> u64
+        requires { n < 32 }
+        ensures { result ≡ spec.register self.now n }
+    {
+        self.registers[n as usize]
+    }
+
+    /// So many bytes of the user area from an address, where they all stand in it.
+    #[tactic(auto, unfolding(guest_memory::specs::Bus::bus_bytes))]
+    pub fn bytes(&self, at: u64, count: u64) -> Option<&[u8]>
+        ensures inside { IsTrue (is_buffer at count) → IsSome result }
+        ensures outside { is_buffer at count ≡ false → IsNone result }
+        ensures bytes { IfSome result (λ bytes. bytes.now ≡ take count (drop (at - user_start) self.now.user)) }
+        ensures len { IfSome result (λ bytes. length bytes.now ≡ count) }
+    {
+        if at < USER_START || at > USER_END || count > USER_END - at {
+            return None;
+        }
+        Some(self.bus.bytes(at, count))
+    }
+
+    /// A call's answer in a0, at the next instruction.
+    pub fn answer(&mut self, value: u64)
+        ensures { self.new ≡ answered self.old value }
+    {
+        put(&mut self.registers, 10, value);
+        self.pc = self.pc.wrapping_add(4);
+    }
+
+    // An effect of an instruction of these bits, with the next one at `after`.
+    #[inline(always)]
+    #[tactic(auto, unfolding(crate::specs::UserStep::carried, guest_memory::specs::Bus::bus_load, guest_memory::specs::Bus::bus_store))]
+    fn carry(&mut self, effect: Effect, bits: u32, after: u64) -> Outcome
+        requires { IsInRange effect }
+        ensures step { carried effect bits after self.old ≡ made result self.new }
+        ensures stays { Stays result self.old self.new }
+    {
+        match effect {
+            Effect::Pass => self.pc = after,
+            Effect::Set { rd, value } => {
+                put(&mut self.registers, rd, value);
+                self.pc = after;
+            }
+            Effect::Jump { rd, target } => {
+                if target % 4 != 0 {
+                    return trapped(Cause::Misaligned, target);
+                }
+                put(&mut self.registers, rd, after);
+                self.pc = target;
+            }
+            Effect::Load {
+                rd,
+                size,
+                extends,
+                at,
+            } => {
+                if let Some(byte) = outside(at, size.bytes()) {
+                    return trapped(Cause::LoadAccess, byte);
+                }
+                let number = self.bus.load(at, size.bytes());
+                put(&mut self.registers, rd, loaded(size, extends, number));
+                self.pc = after;
+            }
+            Effect::Store { size, at, value } => {
+                if let Some(byte) = outside(at, size.bytes()) {
+                    return trapped(Cause::StoreAccess, byte);
+                }
+                self.bus.store(at, size.bytes(), value);
+                self.pc = after;
+            }
+            Effect::Call => return Outcome::Called,
+            Effect::Break => return trapped(Cause::Breakpoint, self.pc),
+            Effect::Csr { .. } | Effect::Return | Effect::Wait => {
+                return trapped(Cause::Illegal, u64::from(bits));
+            }
+        }
+        Outcome::Moved
+    }
+
+    /// One user step.
+    #[inline(always)]
+    #[tactic(auto, unfolding(guest_memory::specs::Bus::bus_load))]
+    pub fn step(&mut self) -> Outcome
+        ensures step { user_step self.old ≡ made result self.new }
+        ensures stays { Stays result self.old self.new }
+    {
+        if let Some(byte) = outside(self.pc, 4) {
+            return trapped(Cause::FetchAccess, byte);
+        }
+        let word = self.bus.load(self.pc, 4) as u32;
+        let Some(insn) = decode(word) else {
+            return trapped(Cause::Illegal, u64::from(word));
+        };
+        let effect = act(insn, self.pc, &self.registers);
+        self.carry(effect, word, self.pc.wrapping_add(4))
+    }
+}

@@ -1,0 +1,129 @@
+// A program that runs, says its last words, or has ended.
+ghost use Rattle.std.specs.Prelude.{◌≡◌, ◌≢◌, ◌≤◌, [], ℕ, List, Some, ◌∷◌, IsErrOf, IfErr, IsOk, OnOk, OnErr, length, false, ◌↔◌};
+ghost use Rattle.fe_base.specs.Outside.{capacity, HasCause, Puts, PutSuits, Rose};
+ghost use Rattle.plain_machine.specs.Direct.{World, machine_step, is_built, status_of, step_puts};
+ghost use Rattle.plain_machine.specs.Machines.{Reaches, IsPossible};
+
+use crate::PlainFault;
+use crate::calls::call;
+use crate::cpu::{Cpu, Outcome};
+use crate::messages::{Message, last_words};
+use fe_base::{Failed, Sink};
+use std::marker::Model;
+
+/// Where a program stands in its life.
+#[derive(Drop)]
+pub enum Phase {
+    /// Its instructions are done.
+    Running,
+    /// A trap has ended it: what is left of its last words, and its status behind them.
+    Dying { message: Message, status: u8 },
+    /// It has ended with this status.
+    Ended(u8),
+}
+
+/// A program with its phase, its break, and the first break that it had.
+#[derive(Drop)]
+pub struct Machine {
+    cpu: Cpu,
+    program_break: u64,
+    first_break: u64,
+    phase: Phase,
+}
+
+impl Model for Machine {
+    ghost use Rattle.plain_machine.specs.Direct.{Machine as DirectMachine};
+    ghost use Rattle.plain_machine.specs.Machines.{machine_of};
+
+    ghost Value = { DirectMachine };
+
+    ghost view = { λ m. machine_of m.cpu m.program_break m.first_break m.phase };
+}
+
+// One byte on the console.
+fn put_byte<C: Sink>(byte: u8, console: &mut C) -> Result<(), Failed>
+    ensures bytes { Puts (C.held console.old) (C.held console.new) (byte ∷ []) result }
+    ensures capacity { capacity (C.held console.new) (C.room console.new) ≡ capacity (C.held console.old) (C.room console.old) }
+    ensures cause { HasCause (C.faults console.old) (C.faults console.new) result }
+    ensures steady { C.steady console.old → OnOk result (C.steady console.new) }
+    ensures suits { C.steady console.old → PutSuits (C.room console.old) 1 → IsOk result }
+{
+    console.put(&[byte])
+}
+
+impl Machine {
+    ghost use Rattle.plain_machine.specs.Direct.{running};
+
+    /// A program before its first step, with this first break.
+    pub fn new(cpu: Cpu, first_break: u64) -> Machine
+        ensures { result ≡ running cpu first_break first_break }
+    {
+        Machine {
+            cpu,
+            program_break: first_break,
+            first_break,
+            phase: Phase::Running,
+        }
+    }
+
+    /// The status, where the program has ended.
+    #[inline(always)]
+    pub fn status(&self) -> Option<u8>
+        ensures { result ≡ status_of self.now }
+    {
+        match self.phase {
+            Phase::Ended(status) => Some(status),
+            _ => None,
+        }
+    }
+
+    /// One step: an instruction, a call, one byte of the last words, or the end behind them.
+    #[inline(always)]
+    #[tactic(auto, using(crate::proofs::MessageLemmas::byte_by_byte))]
+    pub fn step<C: Sink>(&mut self, console: &mut C) -> Result<(), PlainFault>
+        ensures step { OnOk result ((w : World) → C.held console.old ≡ Some w.console
+            → Reaches (machine_step self.old w) w self.new (C.held console.new)) }
+        ensures not_built { IsErrOf result PlainFault.NotBuilt ↔ (is_built self.old ≡ false) }
+        ensures possible { IfErr result IsPossible }
+        ensures kept { OnErr result (self.new ≡ self.old) }
+        ensures told { OnErr result ((held : List ℕ) → C.held console.old ≡ Some held → C.held console.new ≡ Some held) }
+        ensures asked { IsErrOf result PlainFault.ConsoleFault → step_puts self.old ≢ [] }
+        ensures quiet { step_puts self.old ≡ [] → console.new ≡ console.old }
+        ensures later { C.faults console.old ≤ C.faults console.new }
+        ensures fault { IsErrOf result PlainFault.ConsoleFault → Rose (C.faults console.old) (C.faults console.new) }
+        ensures steady { C.steady console.old → OnOk result (C.steady console.new) }
+        ensures capacity { capacity (C.held console.new) (C.room console.new) ≡ capacity (C.held console.old) (C.room console.old) }
+        ensures suits { C.steady console.old → PutSuits (C.room console.old) (length (step_puts self.old))
+            → IsErrOf result PlainFault.ConsoleFault → ⊥ }
+    {
+        match &mut self.phase {
+            Phase::Running => match self.cpu.step() {
+                Outcome::Moved => {}
+                Outcome::Called => {
+                    let ended = call(
+                        &mut self.cpu,
+                        &mut self.program_break,
+                        self.first_break,
+                        console,
+                    )?;
+                    if let Some(status) = ended {
+                        self.phase = Phase::Ended(status);
+                    }
+                }
+                Outcome::Trapped { cause, value } => {
+                    let (message, status) = last_words(cause, self.cpu.pc(), value);
+                    self.phase = Phase::Dying { message, status };
+                }
+            },
+            Phase::Dying { message, status } => match message.first() {
+                Some(byte) => {
+                    put_byte(byte, console).map_err(|_| PlainFault::ConsoleFault)?;
+                    message.advance();
+                }
+                None => self.phase = Phase::Ended(*status),
+            },
+            Phase::Ended(_) => {}
+        }
+        Ok(())
+    }
+}

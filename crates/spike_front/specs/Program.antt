@@ -1,0 +1,144 @@
+-- Which file the words name, and what is done with it: a refusal, or a run.
+use Rattle.std.specs.Prelude.{◌≡◌, ◌<◌, ◌≤◌, ℕ, ⊤, nat_le, if◌then◌else◌, List, [], ◌∷◌, length, drop, slice_index_or, Option, Some, None, Result, Ok, Err}
+use Rattle.fe_base.specs.WordLists.{main_vars_length}
+use Rattle.fe_base.specs.declared.error_numbers.ErrNo.{ErrNo}
+use Rattle.folder_tree.specs.Paths.{Parts, path_of}
+use Rattle.folder_tree.specs.Tree.{Tree, file_of, files_of}
+use Rattle.folder_tree.specs.declared.folder.FolderStop.{FolderStop}
+use Rattle.folder_tree.specs.declared.folder.FolderStop.TheVariants.{Failed, NoMemory}
+use Rattle.elf_loader.specs.ElfFile.{IsFit, fault_of, image_of}
+use Rattle.elf_loader.specs.declared.image.Image.{Image}
+use Rattle.elf_loader.specs.declared.fault.ElfFault.{ElfFault}
+use Rattle.spike_front.specs.Words.{command_of, usage_number}
+use Rattle.spike_front.specs.declared.words.Command.{Command}
+use Rattle.spike_front.specs.declared.words.Command.TheVariants.{Plain}
+use Rattle.spike_front.specs.declared.words.WordFault.{WordFault}
+use Rattle.spike_front.specs.declared.words.WordFault.TheVariants.{Usage as WordUsage, NotBuilt as WordNotBuilt}
+use Rattle.spike_front.specs.declared.answer.Answer.{Answer}
+use Rattle.spike_front.specs.declared.answer.Answer.TheVariants.{Exited, Usage, NoProgram, BadElf, ArgsTooLong, StepsSpent, FileFault, InputFault, ConsoleFault, ReportFault, OutOfMemory, NotBuilt}
+use Rattle.spike_front.specs.declared.program.Stop.{Stop}
+use Rattle.spike_front.specs.declared.program.Stop.TheVariants.{FileFault as FileStop, OutOfMemory as MemoryStop}
+use Rattle.spike_front.specs.declared.program.Program.{Program}
+use Rattle.spike_front.specs.declared.program.Program.TheVariants.{Missing, TooLarge, Bytes}
+use Rattle.spike_front.specs.declared.plan.Plan.{Plan}
+use Rattle.spike_front.specs.declared.plan.Plan.TheVariants.{Refuse, Run}
+
+-- the most bytes that are read of a program file; more are a fault by their number alone
+abbrev pub file_limit : ℕ
+file_limit = 67108864
+
+-- the most bytes that the main vars of a program may have
+abbrev pub main_vars_limit : ℕ
+main_vars_limit = 65536
+
+-- what is done: a refusal with an answer, or a run of an image with arguments for so many steps at most
+pub data Planned : Type 0 where
+  refuse : Answer → Planned
+  run : Image → List (List ℕ) → ℕ → Planned
+
+-- a program is run with its arguments, unless their main vars are too long
+abbrev pub planned_args : Image → List (List ℕ) → ℕ → Planned
+planned_args image args steps = if nat_le (main_vars_length args) main_vars_limit then run image args steps else refuse (ArgsTooLong (main_vars_length args))
+
+-- a file with a fault is refused
+abbrev pub planned_image : ℕ → List (List ℕ) → List ℕ → Option ElfFault → Planned
+planned_image steps args bytes None = planned_args (image_of bytes) args steps
+planned_image steps args bytes (Some fault) = refuse (BadElf fault)
+
+-- no file is no program
+abbrev pub planned_file : ℕ → List (List ℕ) → Option (List ℕ) → Planned
+planned_file steps args None = refuse NoProgram
+planned_file steps args (Some bytes) = planned_image steps args bytes (fault_of bytes)
+
+-- a word that is no path names no program
+abbrev pub planned_path : ℕ → List (List ℕ) → Result Parts ErrNo → Tree → Planned
+planned_path steps args (Ok path) t = planned_file steps args (file_of t path)
+planned_path steps args (Err number) t = refuse NoProgram
+
+-- a run of the file that the word at this place names: the arguments are that word and those behind it
+abbrev pub planned_run : ℕ → ℕ → List (List ℕ) → Tree → Planned
+planned_run steps file words t = planned_path steps (drop file words) (path_of (slice_index_or words file [])) t
+
+-- how words that are no command are answered
+abbrev pub answer_of_fault : WordFault → Answer
+answer_of_fault (WordUsage kind place) = Usage (usage_number kind) place
+answer_of_fault WordNotBuilt = NotBuilt 1
+
+-- how what was read of the words is answered, where it is no command
+abbrev pub refusal_of : Result Command WordFault → Option Answer
+refusal_of (Ok command) = None
+refusal_of (Err fault) = Some (answer_of_fault fault)
+
+-- how words are answered that are no command
+abbrev pub words_refusal : List (List ℕ) → Option Answer
+words_refusal words = refusal_of (command_of words)
+
+-- words that are no command are refused first
+abbrev pub planned_command : Result Command WordFault → List (List ℕ) → Tree → Planned
+planned_command (Ok (Plain steps file)) words t = planned_run steps file words t
+planned_command (Err fault) words t = refuse (answer_of_fault fault)
+
+-- what the words ask for, over a tree of files
+abbrev pub plan_of : List (List ℕ) → Tree → Planned
+plan_of words t = planned_command (command_of words) words t
+
+-- what a plan that was made stands for
+abbrev pub shown : Plan → Planned
+shown (Refuse answer) = refuse answer
+shown (Run image args steps) = run image args steps
+
+-- a tree with these files is told; how often each is open is no part of them
+abbrev pub HasFiles : Tree → Option Tree → Type 0
+HasFiles t told = (now : Tree) × (told ≡ Some now) × (files_of now ≡ files_of t)
+
+-- why a folder's call stops the work
+abbrev pub stop_of : FolderStop → Stop
+stop_of Failed = FileStop
+stop_of NoMemory = MemoryStop
+
+-- what was read of an open file with these bytes
+abbrev pub IsReadOf : List ℕ → Program → Type 0
+IsReadOf bytes Missing = ⊥
+IsReadOf bytes TooLarge = file_limit < length bytes
+IsReadOf bytes (Bytes read) = (length bytes ≤ file_limit) × (read.items ≡ bytes)
+
+-- what was found at a path with this file, if it has one
+abbrev pub IsProgram : Option (List ℕ) → Program → Type 0
+IsProgram file Missing = file ≡ None
+IsProgram file TooLarge = (bytes : List ℕ) × (file ≡ Some bytes) × (file_limit < length bytes)
+IsProgram file (Bytes read) = (file ≡ Some read.items) × (length read.items ≤ file_limit)
+
+-- the answers to words that are no command
+abbrev pub IsWordsRefusal : Answer → Type 0
+IsWordsRefusal (Usage kind place) = ⊤
+IsWordsRefusal (NotBuilt kind) = kind ≡ 1
+IsWordsRefusal (Exited status) = ⊥
+IsWordsRefusal NoProgram = ⊥
+IsWordsRefusal (BadElf fault) = ⊥
+IsWordsRefusal (ArgsTooLong n) = ⊥
+IsWordsRefusal (StepsSpent n) = ⊥
+IsWordsRefusal FileFault = ⊥
+IsWordsRefusal InputFault = ⊥
+IsWordsRefusal ConsoleFault = ⊥
+IsWordsRefusal ReportFault = ⊥
+IsWordsRefusal OutOfMemory = ⊥
+
+-- the answers that refuse before a run: other words, no program, a fault of the file, arguments that are too long
+abbrev pub IsRefusal : Answer → Type 0
+IsRefusal (Usage kind place) = ⊤
+IsRefusal NoProgram = ⊤
+IsRefusal (BadElf fault) = ⊤
+IsRefusal (ArgsTooLong n) = ⊤
+IsRefusal (NotBuilt kind) = kind ≡ 1
+IsRefusal (Exited status) = ⊥
+IsRefusal (StepsSpent n) = ⊥
+IsRefusal FileFault = ⊥
+IsRefusal InputFault = ⊥
+IsRefusal ConsoleFault = ⊥
+IsRefusal ReportFault = ⊥
+IsRefusal OutOfMemory = ⊥
+
+-- a plan refuses with a refusal, or has an image that may be run, arguments that fit, and some steps to make
+abbrev pub FitsPlan : Plan → Type 0
+FitsPlan (Refuse answer) = IsRefusal answer
+FitsPlan (Run image args steps) = IsFit image × (main_vars_length args ≤ main_vars_limit) × (0 < steps)

@@ -1,0 +1,676 @@
+// `front` over objects in memory: what it answers, puts on the console and reports.
+ghost use Rattle.std.specs.Prelude.{◌≡◌, ◌<◌, length};
+
+use crate::answer::Answer;
+use crate::front::front;
+use crate::host::HostFolder;
+use elf_loader::{ElfFault, read_elf};
+use fe_base::{ByteSink, ByteSource, Words};
+use folder_tree::{FilesFolder, Folder, FolderStop, Path, PathKind, read_path};
+use plain_machine::{Plain, PlainEnd};
+use std::alloc::{AllocError, Global};
+use std::fs;
+use std::process::Abort;
+use std::str::from_utf8;
+use std::test::Fail;
+
+/// The headers of a program file up to the size of its code, and those behind the two sizes.
+const FRONT: [u8; 96] = [
+    0x7f, 0x45, 0x4c, 0x46, 2, 1, 1, 0, 0, 0, 0, 0, 0, 0, 0, 0, //
+    2, 0, 0xf3, 0, 1, 0, 0, 0, 0, 0, 1, 0, 0, 0, 0, 0, //
+    0x40, 0, 0, 0, 0, 0, 0, 0, 0, 0, 0, 0, 0, 0, 0, 0, //
+    0, 0, 0, 0, 0x40, 0, 0x38, 0, 1, 0, 0, 0, 0, 0, 0, 0, //
+    1, 0, 0, 0, 7, 0, 0, 0, 0x78, 0, 0, 0, 0, 0, 0, 0, //
+    0, 0, 1, 0, 0, 0, 0, 0, 0, 0, 1, 0, 0, 0, 0, 0, //
+];
+
+const BEHIND: [u8; 8] = [0, 0x10, 0, 0, 0, 0, 0, 0];
+
+/// addi a7, x0, 93; ecall
+const END: [u32; 2] = [0x05d0_0893, 0x0000_0073];
+
+/// Writes `Hi` and a newline from behind its code, and ends with 0.
+const HI: [u32; 10] = [
+    0x0010_0513,
+    0x0000_0597,
+    0x0205_8593,
+    0x0030_0613,
+    0x0400_0893,
+    0x0000_0073,
+    0x0000_0513,
+    0x05d0_0893,
+    0x0000_0073,
+    0x000a_6948,
+];
+
+/// addi a0, x0, 300; addi a7, x0, 93; ecall
+const THREE_HUNDRED: [u32; 3] = [0x12c0_0513, 0x05d0_0893, 0x0000_0073];
+
+/// Writes nothing at the end of the user area, then nothing behind it, and ends with the number of
+/// the error of the second: addi a0, x0, 1; lui a1, 0x1010; addi a2, x0, 0; addi a7, x0, 64; ecall;
+/// addi a0, x0, 1; addi a1, a1, 1; ecall; sub a0, x0, a0; addi a7, x0, 93; ecall
+const BEYOND: [u32; 11] = [
+    0x0010_0513,
+    0x0101_05b7,
+    0x0000_0613,
+    0x0400_0893,
+    0x0000_0073,
+    0x0010_0513,
+    0x0015_8593,
+    0x0000_0073,
+    0x40a0_0533,
+    0x05d0_0893,
+    0x0000_0073,
+];
+
+/// addi t0, x0, 1; slli t0, t0, 31; sd x0, 0(t0)
+const STORES_FAR: [u32; 3] = [0x0010_0293, 0x01f2_9293, 0x0002_b023];
+
+/// csrrs t0, 0xc00, x0
+const COUNTER: [u32; 1] = [0xc000_22f3];
+
+/// jal x0, .+2
+const JUMPS_BETWEEN: [u32; 1] = [0x0020_006f];
+
+/// jal x0, .
+const FOREVER: [u32; 1] = [0x0000_006f];
+
+/// Writes the quotient of the least number by -1, the remainder of -1 by 0 and the upper half of -1
+/// times 2^64 - 1: addi t0, x0, -1; slli t1, t0, 63; div t2, t1, t0; rem t3, t0, x0; mulhsu t4, t0,
+/// t0; lui s0, 0x20; sd t2, 0(s0); sd t3, 8(s0); sd t4, 16(s0); addi a0, x0, 1; addi a1, s0, 0;
+/// addi a2, x0, 24; addi a7, x0, 64; ecall; addi a0, x0, 0; addi a7, x0, 93; ecall
+const DIVIDES: [u32; 17] = [
+    0xfff0_0293,
+    0x03f2_9313,
+    0x0253_43b3,
+    0x0202_ee33,
+    0x0252_aeb3,
+    0x0002_0437,
+    0x0074_3023,
+    0x01c4_3423,
+    0x01d4_3823,
+    0x0010_0513,
+    0x0004_0593,
+    0x0180_0613,
+    0x0400_0893,
+    0x0000_0073,
+    0x0000_0513,
+    0x05d0_0893,
+    0x0000_0073,
+];
+
+/// Grows its break by a page, and ends by exit_group with the number of pages that it grew: addi a0,
+/// x0, 0; addi a7, x0, 214; ecall; addi t0, a0, 0; lui a1, 1; add a0, a0, a1; ecall; sub a0, a0, t0;
+/// srli a0, a0, 12; addi a7, x0, 94; ecall
+const GROWS: [u32; 11] = [
+    0x0000_0513,
+    0x0d60_0893,
+    0x0000_0073,
+    0x0005_0293,
+    0x0000_15b7,
+    0x00b5_0533,
+    0x0000_0073,
+    0x4055_0533,
+    0x00c5_5513,
+    0x05e0_0893,
+    0x0000_0073,
+];
+
+/// Ends with the number of the error of a call that no table has: addi a7, x0, 1; ecall; sub a0, x0,
+/// a0; addi a7, x0, 93; ecall
+const NO_CALL: [u32; 5] = [
+    0x0010_0893,
+    0x0000_0073,
+    0x40a0_0533,
+    0x05d0_0893,
+    0x0000_0073,
+];
+
+/// addi a7, x0, 63; ecall
+const READS: [u32; 2] = [0x03f0_0893, 0x0000_0073];
+
+// The file of one segment with this code.
+fn program(alloc: Global, code: &[u32]) -> Result<Vec<u8>, AllocError>
+    requires { length code.now < 1000 }
+{
+    let size = 4 * code.len() as u64;
+    let mut file = Vec::from_slice(alloc, &FRONT)?;
+    file.extend_from_slice(&size.to_le_bytes())?;
+    file.extend_from_slice(&size.to_le_bytes())?;
+    file.extend_from_slice(&BEHIND)?;
+    for word in code {
+        file.extend_from_slice(&word.to_le_bytes())?;
+    }
+    Ok(file)
+}
+
+/// A command line over a folder with the file `p`, with the numbers of the calls that fail, and what
+/// must come of it.
+#[derive(Clone, Copy)]
+struct Case<'a> {
+    words: &'a [&'a str],
+    file: &'a [u8],
+    folder: &'a [u64],
+    console: &'a [u64],
+    report: &'a [u64],
+    answer: Answer,
+    code: u8,
+    puts: &'a [u8],
+    line: &'a str,
+}
+
+fn check(rt: &impl Abort, alloc: Global, case: &Case) -> Result<(), Fail> {
+    let mut words = Words::new(alloc);
+    for word in case.words {
+        words.push(word)?;
+    }
+    let mut input = ByteSource::new(alloc, b"", &[])?;
+    let mut console = ByteSink::new(alloc, 100, case.console)?;
+    let mut report = ByteSink::new(alloc, 128, case.report)?;
+    let mut folder = FilesFolder::new(alloc, case.folder)?;
+    let path = read_path(b"p")?;
+    assert!(rt; folder.can_put(&path));
+    folder.put_file(&path, case.file)?;
+    let answer = front(
+        alloc,
+        &words,
+        &mut input,
+        &mut console,
+        &mut report,
+        &mut folder,
+    );
+    assert_eq!(rt; answer, case.answer, "{}", case.line);
+    assert_eq!(rt; answer.code(), case.code, "{}", case.line);
+    assert_eq!(rt; console.as_slice(), case.puts, "{}", case.line);
+    assert_eq!(rt; report.as_slice(), case.line.as_bytes(), "{}", case.line);
+    Ok(())
+}
+
+// `plain p`, with no call failing, which answers so.
+fn plain<'a>(file: &'a [u8], answer: Answer, code: u8, puts: &'a [u8], line: &'a str) -> Case<'a> {
+    Case {
+        words: &["plain", "p"],
+        file,
+        folder: &[],
+        console: &[],
+        report: &[],
+        answer,
+        code,
+        puts,
+        line,
+    }
+}
+
+// A run of a program with this code that ends with this status.
+fn ends(
+    rt: &impl Abort,
+    alloc: Global,
+    code: &[u32],
+    status: u8,
+    puts: &[u8],
+    line: &str,
+) -> Result<(), Fail>
+    requires { length code.now < 1000 }
+{
+    let file = program(alloc, code)?;
+    check(
+        rt,
+        alloc,
+        &plain(&file, Answer::Exited(status), status, puts, line),
+    )
+}
+
+// Words over a file of no bytes, which are refused so.
+fn refuses(
+    rt: &impl Abort,
+    alloc: Global,
+    words: &[&str],
+    answer: Answer,
+    code: u8,
+    line: &str,
+) -> Result<(), Fail> {
+    check(
+        rt,
+        alloc,
+        &Case {
+            words,
+            ..plain(b"", answer, code, b"", line)
+        },
+    )
+}
+
+// Words that fail so at this place.
+fn fails(
+    rt: &impl Abort,
+    alloc: Global,
+    words: &[&str],
+    kind: u8,
+    place: u64,
+    line: &str,
+) -> Result<(), Fail> {
+    refuses(rt, alloc, words, Answer::Usage(kind, place), 64, line)
+}
+
+#[test]
+fn programs_end(rt: HostRuntime) -> Result<(), Fail> {
+    let alloc = rt.alloc();
+    ends(&rt, alloc, &END, 0, b"", "pkfe: exited 0 after 2 steps\n")?;
+    ends(
+        &rt,
+        alloc,
+        &HI,
+        0,
+        b"Hi\n",
+        "pkfe: exited 0 after 9 steps\n",
+    )?;
+    ends(
+        &rt,
+        alloc,
+        &THREE_HUNDRED,
+        44,
+        b"",
+        "pkfe: exited 44 after 3 steps\n",
+    )?;
+    ends(
+        &rt,
+        alloc,
+        &BEYOND,
+        14,
+        b"",
+        "pkfe: exited 14 after 11 steps\n",
+    )?;
+    ends(
+        &rt,
+        alloc,
+        &GROWS,
+        1,
+        b"",
+        "pkfe: exited 1 after 11 steps\n",
+    )?;
+    ends(
+        &rt,
+        alloc,
+        &NO_CALL,
+        38,
+        b"",
+        "pkfe: exited 38 after 5 steps\n",
+    )?;
+    Ok(())
+}
+
+#[test]
+fn traps_speak(rt: HostRuntime) -> Result<(), Fail> {
+    let alloc = rt.alloc();
+    let far = b"pk: trap 07 at 0000000000010008 value 0000000080000000\n";
+    ends(
+        &rt,
+        alloc,
+        &STORES_FAR,
+        135,
+        far,
+        "pkfe: exited 135 after 59 steps\n",
+    )?;
+    let counter = b"pk: counter read at 0000000000010000\n";
+    ends(
+        &rt,
+        alloc,
+        &COUNTER,
+        124,
+        counter,
+        "pkfe: exited 124 after 39 steps\n",
+    )?;
+    let between = b"pk: trap 00 at 0000000000010000 value 0000000000010002\n";
+    ends(
+        &rt,
+        alloc,
+        &JUMPS_BETWEEN,
+        128,
+        between,
+        "pkfe: exited 128 after 57 steps\n",
+    )?;
+    let quotients =
+        b"\x00\x00\x00\x00\x00\x00\x00\x80\xff\xff\xff\xff\xff\xff\xff\xff\xff\xff\xff\xff\xff\xff\xff\xff";
+    ends(
+        &rt,
+        alloc,
+        &DIVIDES,
+        0,
+        quotients,
+        "pkfe: exited 0 after 17 steps\n",
+    )?;
+    Ok(())
+}
+
+#[test]
+fn runs_stop(rt: HostRuntime) -> Result<(), Fail> {
+    let alloc = rt.alloc();
+    let forever = program(alloc, &FOREVER)?;
+    let spent = "pkfe: steps spent after 1000 steps\n";
+    let case = Case {
+        words: &["plain", "--steps", "01000", "p"],
+        ..plain(&forever, Answer::StepsSpent(1000), 78, b"", spent)
+    };
+    check(&rt, alloc, &case)?;
+    let reads = program(alloc, &READS)?;
+    let unbuilt = "pkfe: not built 3 after 1 steps\n";
+    check(
+        &rt,
+        alloc,
+        &plain(&reads, Answer::NotBuilt(3), 77, b"", unbuilt),
+    )?;
+    let hi = program(alloc, &HI)?;
+    let fault = "pkfe: console fault after 5 steps\n";
+    let case = Case {
+        console: &[0],
+        ..plain(&hi, Answer::ConsoleFault, 72, b"", fault)
+    };
+    check(&rt, alloc, &case)?;
+    let case = Case {
+        report: &[0],
+        ..plain(&hi, Answer::ReportFault, 73, b"Hi\n", "")
+    };
+    check(&rt, alloc, &case)?;
+    Ok(())
+}
+
+#[test]
+fn folders_fail(rt: HostRuntime) -> Result<(), Fail> {
+    let alloc = rt.alloc();
+    let hi = program(alloc, &HI)?;
+    for call in 0..5 {
+        let failing = [call];
+        let line = "pkfe: file fault after 0 steps\n";
+        let case = Case {
+            folder: &failing,
+            ..plain(&hi, Answer::FileFault, 70, b"", line)
+        };
+        check(&rt, alloc, &case)?;
+    }
+    Ok(())
+}
+
+#[test]
+fn words_fail(rt: HostRuntime) -> Result<(), Fail> {
+    let alloc = rt.alloc();
+    fails(&rt, alloc, &[], 1, 0, "pkfe: usage 1 at 0\n")?;
+    fails(&rt, alloc, &["nosuch"], 2, 0, "pkfe: usage 2 at 0\n")?;
+    fails(&rt, alloc, &["plain"], 9, 1, "pkfe: usage 9 at 1\n")?;
+    fails(&rt, alloc, &["plain", "--"], 9, 2, "pkfe: usage 9 at 2\n")?;
+    fails(&rt, alloc, &["plain", "-x"], 3, 1, "pkfe: usage 3 at 1\n")?;
+    fails(
+        &rt,
+        alloc,
+        &["plain", "--steps=5", "p"],
+        3,
+        1,
+        "pkfe: usage 3 at 1\n",
+    )?;
+    Ok(())
+}
+
+#[test]
+fn values_fail(rt: HostRuntime) -> Result<(), Fail> {
+    let alloc = rt.alloc();
+    fails(
+        &rt,
+        alloc,
+        &["plain", "--steps"],
+        5,
+        2,
+        "pkfe: usage 5 at 2\n",
+    )?;
+    fails(
+        &rt,
+        alloc,
+        &["plain", "--steps", "0", "p"],
+        6,
+        2,
+        "pkfe: usage 6 at 2\n",
+    )?;
+    fails(
+        &rt,
+        alloc,
+        &["plain", "--steps", "1000000000001", "p"],
+        6,
+        2,
+        "pkfe: usage 6 at 2\n",
+    )?;
+    let twice = ["plain", "--steps", "5", "--steps", "6", "p"];
+    fails(&rt, alloc, &twice, 4, 3, "pkfe: usage 4 at 3\n")?;
+    fails(
+        &rt,
+        alloc,
+        &["plain", "--steps", "5"],
+        9,
+        3,
+        "pkfe: usage 9 at 3\n",
+    )?;
+    Ok(())
+}
+
+#[test]
+fn words_are_not_built(rt: HostRuntime) -> Result<(), Fail> {
+    let alloc = rt.alloc();
+    let line = "pkfe: not built 1\n";
+    refuses(&rt, alloc, &["run", "p"], Answer::NotBuilt(1), 77, line)?;
+    refuses(&rt, alloc, &["kernel", "x"], Answer::NotBuilt(1), 77, line)?;
+    let folder = ["plain", "--folder", "d", "p"];
+    refuses(&rt, alloc, &folder, Answer::NotBuilt(1), 77, line)?;
+    let case = Case {
+        words: &[],
+        report: &[0],
+        ..plain(b"", Answer::ReportFault, 73, b"", "")
+    };
+    check(&rt, alloc, &case)?;
+    Ok(())
+}
+
+#[test]
+fn names_nothing(rt: HostRuntime) -> Result<(), Fail> {
+    let alloc = rt.alloc();
+    let line = "pkfe: no program\n";
+    refuses(&rt, alloc, &["plain", "q"], Answer::NoProgram, 65, line)?;
+    refuses(&rt, alloc, &["plain", ""], Answer::NoProgram, 65, line)?;
+    refuses(&rt, alloc, &["plain", "-"], Answer::NoProgram, 65, line)?;
+    refuses(&rt, alloc, &["plain", "../p"], Answer::NoProgram, 65, line)?;
+    refuses(
+        &rt,
+        alloc,
+        &["plain", "--", "-x"],
+        Answer::NoProgram,
+        65,
+        line,
+    )?;
+    Ok(())
+}
+
+// A file that is refused with this fault.
+fn bad(
+    rt: &impl Abort,
+    alloc: Global,
+    file: &[u8],
+    fault: ElfFault,
+    line: &str,
+) -> Result<(), Fail> {
+    check(
+        rt,
+        alloc,
+        &plain(file, Answer::BadElf(fault), 66, b"", line),
+    )
+}
+
+#[test]
+fn files_are_refused(rt: HostRuntime) -> Result<(), Fail> {
+    let alloc = rt.alloc();
+    let file = program(alloc, &END)?;
+    bad(&rt, alloc, b"", ElfFault::Short, "pkfe: bad elf 2\n")?;
+    bad(
+        &rt,
+        alloc,
+        &FRONT[..63],
+        ElfFault::Short,
+        "pkfe: bad elf 2\n",
+    )?;
+    let (cut, _) = file.split_at(file.len().saturating_sub(1));
+    bad(
+        &rt,
+        alloc,
+        cut,
+        ElfFault::Segment(0),
+        "pkfe: bad elf 13 0\n",
+    )?;
+    Ok(())
+}
+
+// The file of `END` with one byte changed.
+fn changed(alloc: Global, place: usize, byte: u8) -> Result<Vec<u8>, AllocError> {
+    let mut file = program(alloc, &END)?;
+    if place < file.len() {
+        file[place] = byte;
+    }
+    Ok(file)
+}
+
+#[test]
+fn changed_files_are_refused(rt: HostRuntime) -> Result<(), Fail> {
+    let alloc = rt.alloc();
+    bad(
+        &rt,
+        alloc,
+        &changed(alloc, 104, 7)?,
+        ElfFault::Segment(0),
+        "pkfe: bad elf 13 0\n",
+    )?;
+    bad(
+        &rt,
+        alloc,
+        &changed(alloc, 107, 1)?,
+        ElfFault::Outside(0),
+        "pkfe: bad elf 14 0\n",
+    )?;
+    bad(
+        &rt,
+        alloc,
+        &changed(alloc, 48, 1)?,
+        ElfFault::Flags,
+        "pkfe: bad elf 9\n",
+    )?;
+    bad(
+        &rt,
+        alloc,
+        &changed(alloc, 24, 2)?,
+        ElfFault::Entry,
+        "pkfe: bad elf 16\n",
+    )?;
+    bad(
+        &rt,
+        alloc,
+        &changed(alloc, 24, 8)?,
+        ElfFault::Entry,
+        "pkfe: bad elf 16\n",
+    )?;
+    Ok(())
+}
+
+// The file of `END` with its program header twice, and its code behind both.
+fn doubled(alloc: Global) -> Result<Vec<u8>, AllocError> {
+    let mut file = program(alloc, &END)?;
+    if file.len() == 128 {
+        file[56] = 2;
+        file[72] = 0xb0;
+        let code = file.split_off(120)?;
+        let header = Vec::from_slice(alloc, &file[64..120])?;
+        file.extend_from_slice(&header)?;
+        file.extend_from_slice(&code)?;
+    }
+    Ok(file)
+}
+
+#[test]
+fn overlapping_segments_are_refused(rt: HostRuntime) -> Result<(), Fail> {
+    let alloc = rt.alloc();
+    let file = doubled(alloc)?;
+    bad(
+        &rt,
+        alloc,
+        &file,
+        ElfFault::Overlap(0, 1),
+        "pkfe: bad elf 15 0 1\n",
+    )
+}
+
+// `plain p` with one argument of so many bytes.
+fn with_argument(
+    rt: &impl Abort,
+    alloc: Global,
+    count: usize,
+    answer: Answer,
+    code: u8,
+    line: &str,
+) -> Result<(), Fail> {
+    let file = program(alloc, &END)?;
+    let bytes: Vec<u8> = vec![in alloc; b'a'; count]?;
+    let argument = from_utf8(&bytes)?;
+    let words = ["plain", "p", argument];
+    let case = Case {
+        words: &words,
+        ..plain(&file, answer, code, b"", line)
+    };
+    check(rt, alloc, &case)
+}
+
+#[test]
+fn arguments_have_a_limit(rt: HostRuntime) -> Result<(), Fail> {
+    let alloc = rt.alloc();
+    let long = "pkfe: arguments need 65537 bytes\n";
+    with_argument(&rt, alloc, 65_494, Answer::ArgsTooLong(65_537), 68, long)?;
+    let line = "pkfe: exited 0 after 2 steps\n";
+    with_argument(&rt, alloc, 65_493, Answer::Exited(0), 0, line)?;
+    Ok(())
+}
+
+#[test]
+fn a_run_stops_at_its_limit(rt: HostRuntime) -> Result<(), Fail> {
+    let alloc = rt.alloc();
+    let image = read_elf(alloc, &program(alloc, &HI)?)?;
+    let args = Words::new(alloc);
+    let mut input = ByteSource::new(alloc, b"", &[])?;
+    let mut console = ByteSink::new(alloc, 100, &[])?;
+    let mut folder = FilesFolder::new(alloc, &[])?;
+    let mut plain = Plain::start(alloc, image, &args, Path::root())?;
+    let end = plain.run(3, &mut folder, &mut input, &mut console);
+    assert_eq!(rt; end, PlainEnd::StepsSpent);
+    assert_eq!(rt; plain.steps(), 3);
+    Ok(())
+}
+
+#[test]
+fn the_working_directory_is_read(rt: HostRuntime) -> Result<(), Fail> {
+    fs::write(&rt, "host_folder", "abcdef")?;
+    let mut folder = HostFolder::here(rt);
+    let kinds = [
+        ("", PathKind::Directory),
+        ("host_folder", PathKind::File),
+        ("host_folder_2", PathKind::Free),
+        ("missing/file", PathKind::NoParent),
+        ("host_folder/below", PathKind::UnderFile),
+    ];
+    for (text, kind) in kinds {
+        let path = read_path(text.as_bytes())?;
+        assert_eq!(rt; folder.kind(&path), Ok(kind), "{text}");
+    }
+    let path = read_path(b"host_folder")?;
+    let number = folder.open_file(&path)?;
+    let other = folder.open_file(&path)?;
+    let mut into = [0; 4];
+    assert_eq!(rt; folder.size(number), Ok(6));
+    assert_eq!(rt; folder.read_at(number, 4, &mut into), Ok(2));
+    assert_eq!(rt; into, *b"ef\0\0");
+    assert_eq!(rt; folder.read_at(other, 0, &mut into), Ok(4));
+    assert_eq!(rt; into, *b"abcd");
+    assert_eq!(rt; folder.release(number), Ok(()));
+    assert_eq!(rt; folder.size(number), Err(FolderStop::Failed));
+    assert_eq!(rt; folder.size(other), Ok(6));
+    fs::remove_file(&rt, "host_folder")?;
+    Ok(())
+}

@@ -1,0 +1,176 @@
+// The words of the command line, read from left to right.
+ghost use Rattle.std.specs.Prelude.{◌≡◌, ◌<◌, ◌≤◌, None, IfSome, IfOk, drop, length};
+ghost use Rattle.spike_front.specs.Words as spec;
+ghost use Rattle.spike_front.specs.Words.{command_of, IsSound};
+
+use fe_base::Words;
+
+/// The most steps of a run, where the words give no number.
+const DEFAULT_STEPS: u64 = 1_000_000_000;
+
+/// The greatest number of steps that the words may give.
+const GREATEST_STEPS: u64 = 1_000_000_000_000;
+
+/// What the words ask for.
+#[derive(Clone, Copy)]
+pub enum Command {
+    /// Run the program whose file the word at the index `file` names, for at most so many steps on
+    /// the direct machine. Its arguments are that word and those behind it.
+    Plain { steps: u64, file: usize },
+}
+
+/// How words fail.
+#[derive(Clone, Copy)]
+pub enum UsageKind {
+    /// There is no word.
+    NoCommand,
+    /// The first word is no command.
+    UnknownCommand,
+    /// The command has no such option.
+    UnknownOption,
+    /// The option was given before.
+    OptionRepeated,
+    /// The option's value is missing.
+    ValueMissing,
+    /// The word is no number of the option's range.
+    BadNumber,
+    /// The file is missing.
+    FileMissing,
+}
+
+impl UsageKind {
+    /// The number by which the failure is told.
+    pub fn number(self) -> u8
+        ensures { result ≡ spec.usage_number self }
+    {
+        match self {
+            UsageKind::NoCommand => 1,
+            UsageKind::UnknownCommand => 2,
+            UsageKind::UnknownOption => 3,
+            UsageKind::OptionRepeated => 4,
+            UsageKind::ValueMissing => 5,
+            UsageKind::BadNumber => 6,
+            UsageKind::FileMissing => 9,
+        }
+    }
+}
+
+/// Why words are no command, by the first of them that fails.
+#[derive(Clone, Copy)]
+pub enum WordFault {
+    /// The word at this index fails so; a missing word's index is the number of words.
+    Usage(UsageKind, u64),
+    /// The word names a command or an option that is not built.
+    NotBuilt,
+}
+
+fn is_unbuilt_name(name: &str) -> bool
+    ensures { result ≡ spec.is_unbuilt_name name.now }
+{
+    name == "run" || name == "kernel" || name == "asm" || name == "demo"
+}
+
+fn is_option(word: &str) -> bool
+    ensures { result ≡ spec.is_option word.now }
+{
+    word.len() > 1 && word.as_bytes()[0] == b'-'
+}
+
+// The number that a word of 1 to 20 digits writes, where it is between these two.
+fn number_within(word: &str, least: u64, most: u64) -> Option<u64>
+    ensures value { result ≡ spec.number_within least most word.now }
+    ensures within { IfSome result (λ number. (least ≤ number) × (number ≤ most)) }
+{
+    if word.is_empty() || word.len() > 20 || word.as_bytes()[0] == b'+' {
+        return None;
+    }
+    match word.parse::<u64>() {
+        Ok(number) if least <= number && number <= most => Some(number),
+        _ => None,
+    }
+}
+
+// The number of steps that the word at the index gives.
+fn steps_value(words: &Words, at: usize) -> Result<u64, WordFault>
+    ensures value { result ≡ spec.steps_value at (drop at words.now) }
+    ensures some { IfOk result (λ steps. 0 < steps) }
+{
+    if at >= words.len() {
+        return Err(WordFault::Usage(UsageKind::ValueMissing, at as u64));
+    }
+    match number_within(words.word(at), 1, GREATEST_STEPS) {
+        Some(steps) => Ok(steps),
+        None => Err(WordFault::Usage(UsageKind::BadNumber, at as u64)),
+    }
+}
+
+// Why the option at the index is refused whatever its value, behind options that gave these steps.
+fn option_fault(word: &str, at: usize, before: Option<u64>) -> Option<WordFault>
+    ensures { result ≡ spec.option_fault before at word.now }
+{
+    if word == "--folder" {
+        return Some(WordFault::NotBuilt);
+    }
+    if word != "--steps" {
+        return Some(WordFault::Usage(UsageKind::UnknownOption, at as u64));
+    }
+    if before.is_some() {
+        return Some(WordFault::Usage(UsageKind::OptionRepeated, at as u64));
+    }
+    None
+}
+
+// `plain` with the word at the index as FILE.
+fn plain_file(words: &Words, at: usize, steps: Option<u64>) -> Result<Command, WordFault>
+    requires { IfSome steps (λ n. 0 < n) }
+    ensures value { result ≡ spec.plain_file steps at (drop at words.now) }
+    ensures sound { IfOk result (IsSound (length words.now)) }
+{
+    if at >= words.len() {
+        return Err(WordFault::Usage(UsageKind::FileMissing, at as u64));
+    }
+    Ok(Command::Plain {
+        steps: steps.unwrap_or(DEFAULT_STEPS),
+        file: at,
+    })
+}
+
+// `plain` with the words behind it: options with their values, and FILE.
+fn plain_words(words: &Words) -> Result<Command, WordFault>
+    requires { 0 < length words.now }
+    ensures value { result ≡ spec.plain_words None 1 (drop 1 words.now) }
+    ensures sound { IfOk result (IsSound (length words.now)) }
+{
+    let mut steps = None;
+    let mut at = 1;
+    'options: while at < words.len() && is_option(words.word(at)) {
+        let word = words.word(at);
+        if word == "--" {
+            return plain_file(words, at + 1, steps);
+        }
+        if let Some(fault) = option_fault(word, at, steps) {
+            return Err(fault);
+        }
+        steps = Some(steps_value(words, at + 1)?);
+        at += 2;
+    }
+    plain_file(words, at, steps)
+}
+
+/// The command that the words are, or their first failure from the left.
+pub fn read_command(words: &Words) -> Result<Command, WordFault>
+    ensures value { result ≡ command_of words.now }
+    ensures sound { IfOk result (IsSound (length words.now)) }
+{
+    if words.len() == 0 {
+        return Err(WordFault::Usage(UsageKind::NoCommand, 0));
+    }
+    let name = words.word(0);
+    if name == "plain" {
+        return plain_words(words);
+    }
+    if is_unbuilt_name(name) {
+        return Err(WordFault::NotBuilt);
+    }
+    Err(WordFault::Usage(UsageKind::UnknownCommand, 0))
+}
