@@ -164,6 +164,11 @@ fn check(rt: &impl Abort, alloc: Global, case: &Case) -> Result<(), Fail> {
     for word in case.words {
         words.push(word)?;
     }
+    check_words(rt, alloc, &words, case)
+}
+
+// These words, in place of those of the case.
+fn check_words(rt: &impl Abort, alloc: Global, words: &Words, case: &Case) -> Result<(), Fail> {
     let mut input = ByteSource::new(alloc, b"", &[])?;
     let mut console = ByteSink::new(alloc, 100, case.console)?;
     let mut report = ByteSink::new(alloc, 128, case.report)?;
@@ -173,7 +178,7 @@ fn check(rt: &impl Abort, alloc: Global, case: &Case) -> Result<(), Fail> {
     folder.put_file(&path, case.file)?;
     let answer = front(
         alloc,
-        &words,
+        words,
         &mut input,
         &mut console,
         &mut report,
@@ -611,12 +616,12 @@ fn with_argument(
     let file = program(alloc, &END)?;
     let bytes: Vec<u8> = vec![in alloc; b'a'; count]?;
     let argument = from_utf8(&bytes)?;
-    let words = ["plain", "p", argument];
-    let case = Case {
-        words: &words,
-        ..plain(&file, answer, code, b"", line)
-    };
-    check(rt, alloc, &case)
+    let mut words = Words::new(alloc);
+    words.push("plain")?;
+    words.push("p")?;
+    words.push(argument)?;
+    let case = plain(&file, answer, code, b"", line);
+    check_words(rt, alloc, &words, &case)
 }
 
 #[test]
