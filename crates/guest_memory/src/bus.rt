@@ -1,7 +1,8 @@
 //! The bus of the target: two areas of RAM in one block, and the start word.
-ghost use Rattle.std.specs.Prelude.{◌≡◌, ◌≤◌, ◌<◌, ◌^◌, ◌+◌, ◌-◌, ◌%◌, ◌==◌, ◌&&◌, if◌then◌else◌, nat_lt, IsTrue, IfOk, is_some, length};
-ghost use Rattle.std.specs.Bool.{OnFalse};
+ghost use Rattle.std.specs.Prelude.{◌≡◌, ◌≤◌, ◌<◌, ◌^◌, ◌+◌, ◌-◌, ◌%◌, ◌==◌, ◌&&◌, if◌then◌else◌, nat_lt, IsTrue, IfOk, IfSome, is_some, length};
+ghost use Rattle.std.specs.Bool.{OnTrue, OnFalse};
 ghost use Rattle.std.specs.Borrow.{sem};
+ghost use Rattle.core.specs.Bool.{then_some};
 ghost use Rattle.fe_base.specs.MemoryMap.{user_start, kernel_start};
 ghost use Rattle.guest_memory.specs.Bus as spec;
 ghost use Rattle.guest_memory.specs.Bus.{IsBus, is_within, is_beat, beat, with_beat, bus_load, bus_store, bus_bytes, reset_bus};
@@ -97,6 +98,40 @@ impl Bus {
         ensures whole { IsBus self.now }
     {
         self.ram.load(place_of(at), width)
+    }
+
+    /// As `load`, at any address. None where the bytes do not stand whole in one area of RAM.
+    #[inline(always)]
+    pub fn load_within(&self, at: u64, width: usize) -> Option<u64>
+        requires { IsTrue (is_width width) }
+        ensures value { result ≡ then_some (spec.is_ram at width) (bus_load self.now at width) }
+        ensures fits { IfSome result (λ number. number < 256 ^ width) }
+    {
+        if stands_within(USER_START, USER_END, at, width as u64) {
+            Some(self.load(at, width))
+        } else if stands_within(KERNEL_START, KERNEL_END, at, width as u64) {
+            Some(self.load(at, width))
+        } else {
+            None
+        }
+    }
+
+    /// As `store`, at any address. False, and nothing is changed, where the bytes do not stand whole in one area of RAM.
+    #[inline(always)]
+    pub fn store_within(&mut self, at: u64, width: usize, value: u64) -> bool
+        requires { IsTrue (is_width width) }
+        ensures inside { result ≡ spec.is_ram at width }
+        ensures after { OnTrue result (self.new ≡ bus_store self.old at width value) }
+        ensures refused { OnFalse result (self.new ≡ self.old) }
+    {
+        if stands_within(USER_START, USER_END, at, width as u64) {
+            self.store(at, width, value);
+        } else if stands_within(KERNEL_START, KERNEL_END, at, width as u64) {
+            self.store(at, width, value);
+        } else {
+            return false;
+        }
+        true
     }
 
     /// Puts the low 1, 2, 4 or 8 bytes of a number into RAM, little endian.

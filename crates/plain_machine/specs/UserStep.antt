@@ -1,5 +1,6 @@
 -- The user step: one instruction on pc, 32 registers and the user bytes.
-use Rattle.std.specs.Prelude.{◌≡◌, ℕ, zero, suc, ◌+◌, ◌-◌, ◌%◌, ◌^◌, ◌==◌, ◌&&◌, ⊤, nat_le, nat_lt, if◌then◌else◌, Bool, List, Option, Some, None}
+use Rattle.std.specs.Prelude.{◌≡◌, ℕ, ◌+◌, ◌-◌, ◌%◌, ◌^◌, ◌==◌, ⊤, if◌then◌else◌, Bool, List, Option, Some, None}
+use Rattle.fe_base.specs.ByteRanges.{first_failing, is_between}
 use Rattle.fe_base.specs.MemoryMap.{user_start, user_end}
 use Rattle.guest_memory.specs.Memory.{load, store}
 use Rattle.rv_decode.specs.InsnTable.{insn_of}
@@ -30,12 +31,7 @@ register state n = read state.registers n
 
 -- a byte of the user area
 abbrev pub is_user : ℕ → Bool
-is_user at = nat_le user_start at && nat_lt at user_end
-
--- the first of so many bytes from an address on that fails a test, counted upwards modulo 2 ^ 64
-abbrev pub first_failing : (ℕ → Bool) → ℕ → ℕ → Option ℕ
-first_failing test at zero = None
-first_failing test at (suc count) = if test at then first_failing test ((at + 1) % 2 ^ 64) count else Some at
+is_user at = is_between user_start user_end at
 
 -- the first of so many bytes from an address on that is not of the user area
 unfoldable pub outside : ℕ → ℕ → Option ℕ

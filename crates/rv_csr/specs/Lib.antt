@@ -1,0 +1,5 @@
+pub mod CsrTable
+pub mod Fields
+pub mod Pmp
+pub mod Traps
+pub mod Windows

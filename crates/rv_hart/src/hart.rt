@@ -1,0 +1,311 @@
+// A hart and its step.
+ghost use Rattle.std.specs.Prelude.{◌≡◌, ◌<◌};
+ghost use Rattle.guest_memory.specs.Bus.{IsBus};
+ghost use Rattle.guest_memory.specs.Memory.{zeros};
+ghost use Rattle.rv_alu.specs.Effects as effect_spec;
+ghost use Rattle.rv_alu.specs.Effects.{IsInRange};
+ghost use Rattle.rv_hart.specs.declared.causes.Cause.TheVariants as cause_of;
+ghost use Rattle.rv_hart.specs.HartStep as spec;
+ghost use Rattle.rv_hart.specs.HartStep.{IsHart, IsUnhalted, AreQuiet, reset_hart, trapped, returned, privileged, csr_step, load_step, store_step, carried, instruction_step, counted_step, over, hart_step};
+
+use crate::access::{read, start_word, write};
+use crate::causes::Cause;
+use crate::debug::{DebugLines, Run};
+use fe_base::memory_map::KERNEL_START;
+use guest_memory::Bus;
+use rv_alu::{CsrOp, Effect, Size, act, loaded, put};
+use rv_csr::{Access, Csrs, Mode};
+use rv_decode::decode;
+use std::marker::Model;
+
+/// A hart with its 32 registers and its CSRs.
+#[derive(Drop)]
+pub struct Hart {
+    /// The mode in which it runs.
+    pub mode: Mode,
+    /// The address of the next instruction.
+    pub pc: u64,
+    /// Its control and status registers.
+    pub csrs: Csrs,
+    /// Whether it is held, runs or is halted.
+    pub run: Run,
+    // the steps so far that began in user mode
+    user_steps: u64,
+    registers: [u64; 32],
+}
+
+impl Model for Hart {
+    ghost use Rattle.rv_csr.specs.CsrTable.{IsCsrs};
+    ghost use Rattle.rv_hart.specs.HartStep.{HartState, AreRegisters};
+
+    ghost Value = { HartState };
+
+    ghost view = { λ h. record { mode = h.mode; pc = h.pc; registers = h.registers; csrs = h.csrs; run = h.run; user_steps = h.user_steps } };
+
+    ghost invariant = { λ h. AreRegisters h.registers × IsCsrs h.csrs };
+}
+
+#[tactic(auto, unfolding(guest_memory::specs::Memory::zeros))]
+fn no_registers() -> [u64; 32]
+    ensures { result ≡ zeros 32 }
+{
+    [0; 32]
+}
+
+// What a CSR instruction writes, of what the register held.
+fn written_value(op: CsrOp, old: u64, value: u64) -> u64
+    ensures { result ≡ spec.written_value op old value }
+{
+    match op {
+        CsrOp::Write => value,
+        CsrOp::SetBits => old | value,
+        CsrOp::ClearBits => old & !value,
+    }
+}
+
+impl Hart {
+    /// The hart at reset: held, in machine mode, at the first address of the kernel area, with every register 0.
+    #[tactic(auto, using(crate::proofs::RegisterLemmas::registers))]
+    pub fn reset() -> Hart
+        ensures value { result ≡ reset_hart }
+        ensures range { IsHart result }
+    {
+        Hart {
+            mode: Mode::Machine,
+            pc: KERNEL_START,
+            csrs: Csrs::reset(),
+            run: Run::Held,
+            user_steps: 0,
+            registers: no_registers(),
+        }
+    }
+
+    /// Register n, which is below 32.
+    pub fn read_reg(&self, n: u8) -> u64
+        requires { n < 32 }
+        ensures { result ≡ effect_spec.read self.now.registers n }
+    {
+        self.registers[n as usize]
+    }
+
+    /// Writes register n, which is below 32. A write of x0 does nothing.
+    #[tactic(auto, using(crate::proofs::RegisterLemmas::registers))]
+    pub fn write_reg(&mut self, n: u8, value: u64)
+        requires { n < 32 }
+        ensures after { self.new ≡ record self.old { registers = effect_spec.put self.old.registers n value } }
+        ensures range { IsHart self.new }
+    {
+        put(&mut self.registers, n, value);
+    }
+
+    /// How many steps so far began in user mode, those that ended in a trap among them. The count stays at its last value.
+    pub fn user_steps(&self) -> u64
+        ensures { result ≡ self.now.user_steps }
+    {
+        self.user_steps
+    }
+
+    // Takes a trap.
+    #[cold]
+    #[tactic(auto, unfolding(crate::specs::HartStep::trapped_as))]
+    fn trap(&mut self, cause: Cause, value: u64)
+        ensures after { self.new ≡ trapped cause value self.old }
+        ensures run { self.new.run ≡ self.old.run }
+        ensures range { IsHart self.new }
+    {
+        self.pc = self
+            .csrs
+            .enter_trap(cause.number(), value, self.pc, self.mode);
+        self.mode = Mode::Machine;
+    }
+
+    // Takes the trap of an illegal instruction of these bits.
+    fn illegal(&mut self, bits: u32)
+        ensures after { self.new ≡ trapped cause_of.Illegal bits self.old }
+        ensures run { self.new.run ≡ self.old.run }
+        ensures range { IsHart self.new }
+    {
+        self.trap(Cause::Illegal, u64::from(bits));
+    }
+
+    // MRET of an instruction of these bits.
+    #[tactic(auto, unfolding(crate::specs::HartStep::returned))]
+    fn return_from_trap(&mut self, bits: u32)
+        ensures after { self.new ≡ privileged self.old.mode bits self.old (returned self.old) }
+        ensures run { self.new.run ≡ self.old.run }
+        ensures range { IsHart self.new }
+    {
+        if self.mode == Mode::User {
+            self.illegal(bits);
+        } else {
+            (self.mode, self.pc) = self.csrs.leave_trap();
+        }
+    }
+
+    // A CSR instruction of these bits, with the next one at `after`.
+    #[tactic(auto, using(crate::proofs::RegisterLemmas::registers), unfolding(crate::specs::HartStep::csr_step))]
+    fn access_csr(
+        &mut self,
+        bits: u32,
+        after: u64,
+        rd: u8,
+        csr: u16,
+        op: CsrOp,
+        value: u64,
+        writes: bool,
+    )
+        requires { rd < 32 }
+        ensures after { self.new ≡ csr_step bits after rd csr op value writes self.old }
+        ensures run { self.new.run ≡ self.old.run }
+        ensures range { IsHart self.new }
+    {
+        let Some(old) = self.csrs.read(csr, self.mode) else {
+            return self.illegal(bits);
+        };
+        let wanted = written_value(op, old, value);
+        if writes && !self.csrs.write(csr, wanted, self.mode) {
+            return self.illegal(bits);
+        }
+        put(&mut self.registers, rd, old);
+        self.pc = after;
+    }
+
+    // A load to a register, with the next instruction at `after`.
+    #[inline(always)]
+    #[tactic(auto, using(crate::proofs::RegisterLemmas::registers))]
+    fn load(&mut self, bus: &Bus, rd: u8, size: Size, extends: bool, at: u64, after: u64)
+        requires { rd < 32 }
+        ensures step { load_step rd size extends at after (over bus.now self.old) ≡ over bus.now self.new }
+        ensures run { self.new.run ≡ self.old.run }
+        ensures range { IsHart self.new }
+    {
+        match read(bus, &self.csrs, self.mode, Access::Read, at, size.bytes()) {
+            Ok(number) => {
+                put(&mut self.registers, rd, loaded(size, extends, number));
+                self.pc = after;
+            }
+            Err(byte) => self.trap(Cause::LoadAccess, byte),
+        }
+    }
+
+    // A store of a number, with the next instruction at `after`.
+    #[inline(always)]
+    fn store(&mut self, bus: &mut Bus, size: Size, at: u64, value: u64, after: u64)
+        ensures step { store_step size at value after (over bus.old self.old) ≡ over bus.new self.new }
+        ensures run { self.new.run ≡ self.old.run }
+        ensures range { IsHart self.new }
+        ensures bytes { IsBus bus.old → IsBus bus.new }
+    {
+        match write(bus, &self.csrs, self.mode, at, size.bytes(), value) {
+            Ok(()) => self.pc = after,
+            Err(byte) => self.trap(Cause::StoreAccess, byte),
+        }
+    }
+
+    // An effect of an instruction of these bits, with the next one at `after`.
+    #[inline(always)]
+    #[tactic(auto, using(crate::proofs::RegisterLemmas::registers), unfolding(crate::specs::HartStep::carried))]
+    fn carry(&mut self, bus: &mut Bus, effect: Effect, bits: u32, after: u64)
+        requires { IsInRange effect }
+        ensures step { carried effect bits after (over bus.old self.old) ≡ over bus.new self.new }
+        ensures run { self.new.run ≡ self.old.run }
+        ensures range { IsHart self.new }
+        ensures bytes { IsBus bus.old → IsBus bus.new }
+    {
+        match effect {
+            Effect::Pass => self.pc = after,
+            Effect::Set { rd, value } => {
+                put(&mut self.registers, rd, value);
+                self.pc = after;
+            }
+            Effect::Jump { rd, target } => {
+                if target % 4 != 0 {
+                    return self.trap(Cause::Misaligned, target);
+                }
+                put(&mut self.registers, rd, after);
+                self.pc = target;
+            }
+            Effect::Load {
+                rd,
+                size,
+                extends,
+                at,
+            } => self.load(bus, rd, size, extends, at, after),
+            Effect::Store { size, at, value } => self.store(bus, size, at, value, after),
+            Effect::Csr {
+                rd,
+                csr,
+                op,
+                value,
+                writes,
+            } => self.access_csr(bits, after, rd, csr, op, value, writes),
+            Effect::Call => match self.mode {
+                Mode::User => self.trap(Cause::UserCall, 0),
+                Mode::Machine => self.trap(Cause::MachineCall, 0),
+            },
+            Effect::Break => self.trap(Cause::Breakpoint, self.pc),
+            Effect::Return => self.return_from_trap(bits),
+            Effect::Wait => match self.mode {
+                Mode::User => self.illegal(bits),
+                Mode::Machine => self.pc = after,
+            },
+        }
+    }
+
+    // One instruction or its trap.
+    #[inline(always)]
+    #[tactic(auto, unfolding(crate::specs::HartStep::instruction_step))]
+    fn execute(&mut self, bus: &mut Bus)
+        ensures step { instruction_step (over bus.old self.old) ≡ over bus.new self.new }
+        ensures run { self.new.run ≡ self.old.run }
+        ensures range { IsHart self.new }
+        ensures bytes { IsBus bus.old → IsBus bus.new }
+    {
+        let word = match read(bus, &self.csrs, self.mode, Access::Execute, self.pc, 4) {
+            Ok(number) => number as u32,
+            Err(byte) => return self.trap(Cause::FetchAccess, byte),
+        };
+        let Some(insn) = decode(word) else {
+            return self.illegal(word);
+        };
+        let effect = act(insn, self.pc, &self.registers);
+        let after = self.pc.wrapping_add(4);
+        self.carry(bus, effect, word, after);
+    }
+
+    // Counts a step that begins in user mode.
+    #[inline(always)]
+    fn count(&mut self)
+        ensures after { self.new ≡ counted_step self.old.mode self.old }
+        ensures run { self.new.run ≡ self.old.run }
+    {
+        if self.mode == Mode::User {
+            self.user_steps = self.user_steps.saturating_add(1);
+        }
+    }
+
+    /// One step over the bus, where the debug lines ask for nothing; they stay as they are. A held hart begins to run where
+    /// the start word is not 0. One that runs makes one instruction or takes its trap. One that is halted stays as it is.
+    #[inline(always)]
+    pub fn step(&mut self, bus: &mut Bus, lines: &mut DebugLines)
+        requires { AreQuiet lines.old }
+        ensures step { over bus.new self.new ≡ hart_step (over bus.old self.old) }
+        ensures lines_stay { lines.new ≡ lines.old }
+        ensures unhalted { IsUnhalted self.old.run → IsUnhalted self.new.run }
+        ensures range { IsHart self.new }
+        ensures bytes { IsBus bus.old → IsBus bus.new }
+    {
+        match self.run {
+            Run::Held => {
+                if start_word(bus) != 0 {
+                    self.run = Run::Running;
+                }
+            }
+            Run::Running => {
+                self.count();
+                self.execute(bus);
+            }
+            Run::Halted { .. } => {}
+        }
+    }
+}
