@@ -133,31 +133,31 @@ impl PmpEntry {
     }
 }
 
-// A range in which user mode may make every access of one kind. It may be less than all that the PMP allows.
+// The addresses at which user mode may make every access of one kind, of at most 8 bytes.
 #[derive(Clone, Copy)]
 struct Window {
     first: u64,
-    end: u64,
+    count: u64,
 }
 
 impl Window {
-    // The range of the second entry where it decides alone and has the right, else one of no bytes.
+    // Those of the second entry where it decides alone and has the right, else none.
     fn of(entry0: PmpEntry, entry1: PmpEntry, access: Access) -> Window
         ensures { result ≡ window_of entry0 entry1 access }
     {
         if !entry0.tor && entry1.tor && entry1.has_right(access) {
             Window {
                 first: entry0.end,
-                end: entry1.end,
+                count: entry1.end.saturating_sub(entry0.end).saturating_sub(7),
             }
         } else {
-            Window { first: 0, end: 0 }
+            Window { first: 0, count: 0 }
         }
     }
 }
 
-/// Two entries, seen as these. The ranges that most accesses fall into are found when the entries are set, so that such an
-/// access costs two comparisons.
+/// Two entries, seen as these. The addresses of most accesses are found when the entries are set, so that such an access
+/// costs one comparison.
 #[derive(Drop)]
 pub struct Pmp {
     entry0: PmpEntry,
@@ -223,7 +223,7 @@ impl Pmp {
             Access::Write => self.stores,
             Access::Execute => self.fetches,
         };
-        if width > 0 && at >= window.first && at <= window.end && width <= window.end - at {
+        if width > 0 && width <= 8 && at.wrapping_sub(window.first) < window.count {
             return true;
         }
         self.decides(access, at, width)

@@ -1,15 +1,14 @@
 -- From how a run on the direct machine ended to what the top call says of it.
 use Rattle.std.proofs.Common.{◌≡◌, ◌≤◌, ◌<◌, ◌+◌, ◌++◌, ◌⊎◌, ◌↔◌, inl, inr, ℕ, true, false, List, [], length, Option, Some, None, refl, ap, sym, subst, ◌∙◌, arith}
 use Rattle.folder_tree.specs.Tree.{Tree}
-use Rattle.plain_machine.specs.Direct.{World, DirectState, PlainState, Machine, running, dying, ended, direct_after, direct_after-zero, direct_of, status_of, step_puts, is_built, Tells, IsAt, HasRoomFor}
-use Rattle.plain_machine.specs.declared.plain.PlainFault.{PlainFault}
+use Rattle.plain_machine.specs.Direct.{World, DirectState, PlainState, Machine, running, dying, ended, direct_after, direct_after-zero, status_of, step_puts, is_built, Tells, IsAt, HasRoomFor}
 use Rattle.plain_machine.specs.declared.plain.PlainFault.TheVariants.{FileFault as FileStop, InputFault as InputStop, ConsoleFault as ConsoleStop, OutOfMemory as MemoryStop, NotBuilt as NotBuiltStop}
 use Rattle.plain_machine.specs.declared.plain.PlainEnd.{PlainEnd}
 use Rattle.plain_machine.specs.declared.plain.PlainEnd.TheVariants.{Exited as EndExited, StepsSpent as EndSpent, Fault as EndFault}
 use Rattle.spike_front.specs.declared.answer.Answer.{Answer}
 use Rattle.spike_front.specs.declared.answer.Answer.TheVariants.{Exited, Usage, NoProgram, BadElf, ArgsTooLong, StepsSpent, FileFault, InputFault, ConsoleFault, ReportFault, OutOfMemory, NotBuilt}
 use Rattle.elf_loader.specs.declared.image.Image.{Image}
-use Rattle.spike_front.specs.Program.{HasFiles, IsWordsRefusal, refuse, run}
+use Rattle.spike_front.specs.Program.{IsRefusal, IsWordsRefusal, refuse, run}
 use Rattle.spike_front.specs.Report.{line_of}
 use Rattle.spike_front.specs.Front.{Leaves, Ran, IsStop, IsRunAnswer, IsSaid, Reported, Yields, answer_of}
 
@@ -231,3 +230,27 @@ pub asked_there : (m n : ℕ) (s d : DirectState) (machine : Machine) → machin
     → (step_puts machine ≡ [] → ⊥) → step_puts (direct_after n d).machine ≡ [] → ⊥
 asked_there m n s d machine at steps start asked none =
     asked (ap step_puts (at ∙ ap (λ (k : ℕ). (direct_after k s).machine) steps ∙ ap (λ (e : DirectState). (direct_after n e).machine) start) ∙ none)
+
+-- what is answered but for the report's fault is what was answered before the report
+pub said_of : {P : Type 0} (e result a : Answer) → (a ≡ ReportFault → ⊥) → IsSaid e result → result ≡ a → (e ≡ a → P) → P
+said_of e result a other (inl same) is then = then (sym same ∙ is)
+said_of e result a other (inr fault) is then = absurd (other (sym is ∙ fault))
+
+stop_is : (a : Answer) → IsStop a → (a ≡ FileFault) ⊎ (a ≡ OutOfMemory)
+stop_is FileFault stop = inl refl
+stop_is OutOfMemory stop = inr refl
+stop_is InputFault stop = absurd stop
+stop_is ConsoleFault stop = absurd stop
+stop_is ReportFault stop = absurd stop
+stop_is (Exited status) stop = absurd stop
+stop_is (Usage kind place) stop = absurd stop
+stop_is NoProgram stop = absurd stop
+stop_is (BadElf fault) stop = absurd stop
+stop_is (ArgsTooLong n) stop = absurd stop
+stop_is (StepsSpent n) stop = absurd stop
+stop_is (NotBuilt kind) stop = absurd stop
+
+-- what holds of a refusal and of what ends the work before a run
+pub untouched : {P : Type 0} (a : Answer) → (IsRefusal a → P) → (a ≡ FileFault → P) → (a ≡ OutOfMemory → P) → IsRefusal a ⊎ IsStop a → P
+untouched a refusal file memory (inl refused) = refusal refused
+untouched a refusal file memory (inr stop) = elim (stop_is a stop) [ inl is ↦ file is | inr is ↦ memory is ]

@@ -1,5 +1,5 @@
 -- What reads of a file give, one behind another.
-use Rattle.std.proofs.Common.{◌≡◌, ◌≤◌, ◌<◌, ◌+◌, ◌-◌, ◌++◌, ℕ, Bool, true, false, cond, List, length, take, drop, min, ap, sym, ◌∙◌, refl, arith, length-take, length-drop, Option, Some, None, Ok, nat_lt, if◌then◌else◌}
+use Rattle.std.proofs.Common.{◌≡◌, ◌≤◌, ◌<◌, ◌+◌, ◌++◌, ℕ, Bool, true, false, List, length, take, drop, ap, sym, ◌∙◌, arith, length-take, length-drop, Option, Some, None, Ok, nat_lt, if◌then◌else◌}
 use Rattle.std.proofs.lemmas.List.{drop-take, take-append-drop, take-append-le, take-take}
 use Rattle.std.proofs.Math.Seq.{take-append-add}
 use Rattle.folder_tree.specs.Tree.{Tree, opens_of, bytes_of}

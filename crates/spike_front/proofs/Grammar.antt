@@ -1,10 +1,10 @@
 -- How the grammar of the words reads on from a place, and copies of the words from there.
-use Rattle.std.proofs.Common.{◌≡◌, ◌∙◌, ℕ, zero, suc, ◌+◌, ◌≤◌, ◌++◌, Bool, true, false, not, List, [], ◌∷◌, drop, length, Option, Some, None, Result, Ok, Err, refl, ap, sym, add-one, append_assoc, arith}
+use Rattle.std.proofs.Common.{◌≡◌, ◌∙◌, ℕ, zero, suc, ◌+◌, ◌≤◌, ◌++◌, true, false, not, List, [], ◌∷◌, drop, length, Option, Some, None, Result, Ok, Err, ap, sym, add-one, append_assoc, arith}
 use Rattle.std.proofs.Math.ListN.{drop_of_length-le}
 use Rattle.std.proofs.lemmas.List.{drop-drop}
 use Rattle.std.specs.Prelude.{slice_get, bytes_eq, codes, ok_or}
 use Rattle.spike_front.specs.Words.{command_of, greatest_steps, is_option, is_unbuilt_name, number_within, option_fault, option_value, plain_file, plain_words, steps_value, with_value}
-use Rattle.spike_front.specs.declared.words.UsageKind.TheVariants.{NoCommand, UnknownCommand, BadNumber}
+use Rattle.spike_front.specs.declared.words.UsageKind.TheVariants.{UnknownCommand, BadNumber}
 use Rattle.spike_front.specs.declared.words.WordFault.{WordFault}
 use Rattle.spike_front.specs.declared.words.WordFault.TheVariants.{Usage, NotBuilt}
 use Rattle.spike_front.proofs.Choices.{if_true, if_false}

@@ -1,21 +1,14 @@
 -- From what was read of the words and of the file to what is done.
-use Rattle.std.proofs.Common.{◌≡◌, ◌∙◌, ◌<◌, ◌≤◌, ℕ, nat_le, List, [], ◌∷◌, drop, length, Option, Some, None, Result, Ok, Err, IfOk, refl, ap, sym, subst}
+use Rattle.std.proofs.Common.{◌≡◌, ◌∙◌, ◌<◌, ℕ, List, [], drop, length, Some, Result, Ok, Err, IfOk, ap}
 use Rattle.std.proofs.lemmas.Option.{get_or_from_slice_get}
-use Rattle.std.specs.Prelude.{slice_get, slice_index_or}
-use Rattle.fe_base.specs.WordLists.{main_vars_length}
+use Rattle.std.specs.Prelude.{slice_get}
 use Rattle.fe_base.specs.declared.error_numbers.ErrNo.{ErrNo}
 use Rattle.folder_tree.specs.Paths.{Parts, path_of}
 use Rattle.folder_tree.specs.Tree.{Tree, file_of}
 use Rattle.elf_loader.specs.ElfFile.{fault_of, fault_of-too_large}
-use Rattle.elf_loader.specs.declared.image.Image.{Image}
-use Rattle.elf_loader.specs.declared.fault.ElfFault.{ElfFault}
 use Rattle.elf_loader.specs.declared.fault.ElfFault.TheVariants.{TooLarge}
-use Rattle.spike_front.specs.Words.{command_of, IsSound}
-use Rattle.spike_front.specs.Program.{Planned, file_limit, main_vars_limit, plan_of, planned_args, planned_command, planned_file, planned_image, planned_path, planned_run, refuse, run}
+use Rattle.spike_front.specs.Program.{file_limit, planned_file, planned_image, planned_path, planned_run, refuse}
 use Rattle.spike_front.specs.declared.answer.Answer.TheVariants.{BadElf}
-use Rattle.spike_front.specs.declared.words.Command.{Command}
-use Rattle.spike_front.specs.declared.words.Command.TheVariants.{Plain}
-use Rattle.spike_front.specs.declared.words.WordFault.{WordFault}
 
 -- what holds of an Ok also holds in other words
 pub ok_as : {A E : Type 0} (r : Result A E) (P Q : A → Type 0) → IfOk r P → ((x : A) → P x → Q x) → IfOk r Q

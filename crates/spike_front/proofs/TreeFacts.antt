@@ -1,10 +1,10 @@
 -- What the answers of a folder's calls tell of its files, one after another.
-use Rattle.std.proofs.Common.{◌≡◌, ◌<◌, ◌≤◌, ℕ, true, List, Option, Some, None, Ok, Err, IsSome, length, refl, ap, sym, ◌∙◌, subst, arith, nat_lt}
+use Rattle.std.proofs.Common.{◌≡◌, ◌<◌, ℕ, List, Option, Some, Ok, Err, IsSome, length, refl, ap, sym, ◌∙◌, subst, arith}
 use Rattle.folder_tree.specs.Paths.{Parts}
-use Rattle.folder_tree.specs.Tree.{Tree, IsWellFormed, number_at, file_of, files_of, opens_of, bytes_of}
+use Rattle.folder_tree.specs.Tree.{Tree, IsWellFormed, number_at, opens_of}
 use Rattle.folder_tree.specs.TreeOps.{After, opened, released, release_row}
 use Rattle.folder_tree.specs.Answers.{AnsweredBy, Suits}
-use Rattle.folder_tree.specs.Laws.{number_at-named, opens_of-opened, release_told, released-opened, files_of-released, file_of-number}
+use Rattle.folder_tree.specs.Laws.{number_at-named, opens_of-opened, release_told, released-opened, files_of-released}
 use Rattle.folder_tree.specs.declared.folder.FolderStop.{FolderStop}
 use Rattle.folder_tree.specs.declared.folder.FolderStop.TheVariants.{Failed, NoMemory}
 use Rattle.spike_front.specs.Program.{HasFiles, IsProgram, IsReadOf}

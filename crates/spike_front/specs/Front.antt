@@ -1,5 +1,5 @@
 -- What the top call answers and leaves: a refusal before anything runs, or a run of the program.
-use Rattle.std.specs.Prelude.{◌≡◌, ◌≢◌, [], ◌≤◌, ◌<◌, ◌↔◌, ◌⊎◌, ⊤, ℕ, Bool, true, false, List, ◌++◌, Option, Some, None}
+use Rattle.std.specs.Prelude.{◌≡◌, ◌≢◌, [], ◌≤◌, ◌<◌, ◌↔◌, ◌⊎◌, ⊤, ℕ, true, false, List, ◌++◌, Option, Some, None}
 use Rattle.folder_tree.specs.Tree.{Tree}
 use Rattle.plain_machine.specs.Direct.{World, DirectState, direct_after, status_of, is_built, step_puts}
 use Rattle.plain_machine.specs.declared.plain.PlainFault.{PlainFault}

@@ -1,9 +1,10 @@
 -- Which file the words name, and what is done with it: a refusal, or a run.
-use Rattle.std.specs.Prelude.{◌≡◌, ◌<◌, ◌≤◌, ℕ, ⊤, nat_le, if◌then◌else◌, List, [], ◌∷◌, length, drop, slice_index_or, Option, Some, None, Result, Ok, Err}
+use Rattle.std.specs.Prelude.{◌≡◌, ◌<◌, ◌≤◌, ◌⊎◌, ℕ, ⊤, nat_le, if◌then◌else◌, List, [], length, drop, slice_index_or, Option, Some, None, Result, Ok, Err}
 use Rattle.fe_base.specs.WordLists.{main_vars_length}
 use Rattle.fe_base.specs.declared.error_numbers.ErrNo.{ErrNo}
 use Rattle.folder_tree.specs.Paths.{Parts, path_of}
 use Rattle.folder_tree.specs.Tree.{Tree, file_of, files_of}
+use Rattle.folder_tree.specs.TreeOps.{opened}
 use Rattle.folder_tree.specs.declared.folder.FolderStop.{FolderStop}
 use Rattle.folder_tree.specs.declared.folder.FolderStop.TheVariants.{Failed, NoMemory}
 use Rattle.elf_loader.specs.ElfFile.{IsFit, fault_of, image_of}
@@ -82,6 +83,14 @@ planned_command (Err fault) words t = refuse (answer_of_fault fault)
 abbrev pub plan_of : List (List ℕ) → Tree → Planned
 plan_of words t = planned_command (command_of words) words t
 
+-- the arguments of the words' command have main vars of so many bytes, which are too many
+abbrev pub AreTooLong : List (List ℕ) → ℕ → Type 0
+AreTooLong words n = (steps : ℕ) × (file : ℕ) × (command_of words ≡ Ok (Plain steps file)) × (n ≡ main_vars_length (drop file words)) × (main_vars_limit < n)
+
+-- the words' command has this limit of steps
+abbrev pub HasLimit : List (List ℕ) → ℕ → Type 0
+HasLimit words n = (file : ℕ) × (command_of words ≡ Ok (Plain n file))
+
 -- what a plan that was made stands for
 abbrev pub shown : Plan → Planned
 shown (Refuse answer) = refuse answer
@@ -90,6 +99,10 @@ shown (Run image args steps) = run image args steps
 -- a tree with these files is told; how often each is open is no part of them
 abbrev pub HasFiles : Tree → Option Tree → Type 0
 HasFiles t told = (now : Tree) × (told ≡ Some now) × (files_of now ≡ files_of t)
+
+-- a tree is told as it was, or with one of its files open once more
+abbrev pub StaysOrOpens : Tree → Option Tree → Type 0
+StaysOrOpens t told = (told ≡ Some t) ⊎ ((number : ℕ) × (told ≡ Some (opened t number)))
 
 -- why a folder's call stops the work
 abbrev pub stop_of : FolderStop → Stop
@@ -142,3 +155,13 @@ IsRefusal OutOfMemory = ⊥
 abbrev pub FitsPlan : Plan → Type 0
 FitsPlan (Refuse answer) = IsRefusal answer
 FitsPlan (Run image args steps) = IsFit image × (main_vars_length args ≤ main_vars_limit) × (0 < steps)
+
+-- a plan that runs a program has this limit of steps
+abbrev pub HasSteps : Plan → ℕ → Type 0
+HasSteps (Refuse answer) steps = ⊤
+HasSteps (Run image args limit) steps = limit ≡ steps
+
+-- a plan that runs a program has the limit of the words' command
+abbrev pub HasLimitOf : List (List ℕ) → Plan → Type 0
+HasLimitOf words (Refuse answer) = ⊤
+HasLimitOf words (Run image args limit) = HasLimit words limit

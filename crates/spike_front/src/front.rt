@@ -6,7 +6,7 @@ ghost use Rattle.folder_tree.specs.Tree.{Tree, IsWellFormed};
 ghost use Rattle.elf_loader.specs.ElfFile.{IsFit};
 ghost use Rattle.elf_loader.specs.declared.image.Image.{Image};
 ghost use Rattle.plain_machine.specs.Direct.{World, Tells, HasRoomFor, direct_after, direct_start, step_puts};
-ghost use Rattle.spike_front.specs.Program.{HasFiles, IsRefusal, IsWordsRefusal, plan_of, refuse, run, words_refusal};
+ghost use Rattle.spike_front.specs.Program.{AreTooLong, HasFiles, HasLimit, StaysOrOpens, IsRefusal, IsWordsRefusal, plan_of, refuse, run, words_refusal};
 ghost use Rattle.spike_front.specs.Front as spec;
 ghost use Rattle.spike_front.specs.Front.{IsCaused, IsRunAnswer, IsSaid, IsStop, Ran, Reported, Yields};
 
@@ -66,7 +66,8 @@ fn run_program<I: Source, C: Sink, F: Folder>(
     ensures answers { IsRunAnswer result.answer }
     ensures input { input.new ≡ input.old }
     ensures folder { folder.new ≡ folder.old }
-    ensures memory { result.answer ≡ Answer.OutOfMemory → result.steps ≡ 0 }
+    ensures memory { result.answer ≡ Answer.OutOfMemory → (result.steps ≡ 0) × (console.new ≡ console.old) }
+    ensures spent { (n : ℕ) → result.answer ≡ Answer.StepsSpent n → n ≡ limit }
     ensures console_fault { result.answer ≡ Answer.ConsoleFault → Rose (C.faults console.old) (C.faults console.new) }
     ensures input_fault { result.answer ≡ Answer.InputFault → ⊥ }
     ensures file_fault { result.answer ≡ Answer.FileFault → ⊥ }
@@ -113,7 +114,10 @@ fn command<I: Source, C: Sink, F: Folder>(
     ensures tree { (t : Tree) → IsWellFormed t → F.tree folder.old ≡ Some t → (IsStop result.answer → ⊥) → F.tree folder.new ≡ Some t }
     ensures early { result.answer ≡ Answer.FileFault → (result.steps ≡ 0) × (console.new ≡ console.old) }
     ensures no_report { result.answer ≡ Answer.ReportFault → ⊥ }
-    ensures memory { result.answer ≡ Answer.OutOfMemory → result.steps ≡ 0 }
+    ensures opens { (t : Tree) → IsWellFormed t → F.tree folder.old ≡ Some t → StaysOrOpens t (F.tree folder.new) }
+    ensures memory { result.answer ≡ Answer.OutOfMemory → (result.steps ≡ 0) × (console.new ≡ console.old) }
+    ensures too_long { (n : ℕ) → result.answer ≡ Answer.ArgsTooLong n → AreTooLong words.now n }
+    ensures spent { (n : ℕ) → result.answer ≡ Answer.StepsSpent n → HasLimit words.now n }
     ensures console_fault { result.answer ≡ Answer.ConsoleFault → Rose (C.faults console.old) (C.faults console.new) }
     ensures input_fault { result.answer ≡ Answer.InputFault → ⊥ }
     ensures file_fault { result.answer ≡ Answer.FileFault → Rose (F.faults folder.old) (F.faults folder.new) }
@@ -176,6 +180,15 @@ pub fn front<I: Source, C: Sink, R: Sink, F: Folder>(
     ensures refused_untouched { (t : Tree) (a : Answer) → IsWellFormed t → F.tree folder.old ≡ Some t → plan_of words.now t ≡ refuse a
         → (input.new ≡ input.old) × (console.new ≡ console.old) × HasFiles t (F.tree folder.new) }
     ensures refusal_untouched { IsRefusal result → (input.new ≡ input.old) × (console.new ≡ console.old) }
+
+    // Whatever the objects tell: where no program was run, the console was not called, also where the report failed
+    // afterwards; and what is answered of the arguments' length and of the limit is so of the words.
+    ensures before { (answer : Answer) × IsSaid answer result × (IsRefusal answer ⊎ IsStop answer → console.new ≡ console.old) }
+    ensures too_long { (n : ℕ) → result ≡ Answer.ArgsTooLong n → AreTooLong words.now n }
+    ensures spent { (n : ℕ) → result ≡ Answer.StepsSpent n → HasLimit words.now n }
+
+    // Of a tree that is told all is as it was, but that one file may be open once more.
+    ensures opens { (t : Tree) → IsWellFormed t → F.tree folder.old ≡ Some t → StaysOrOpens t (F.tree folder.new) }
 
     // Else the program runs. On every answer there is one number of steps at which console, untaken input and files are
     // those of the direct run, which the report tells, and which the answer before the report speaks of, with its cause.

@@ -1,9 +1,10 @@
 // The front end's program. `front` does what the words of the command line ask for: it reads the
 // file that they name, runs it on the direct machine between standard input and standard output,
 // and puts one line on standard error that tells how that ended and after how many steps. Its
-// contract says so of any source, sinks and folder: what is left is always what the direct run has
-// after the reported steps, and nothing is touched before the run. `main` hands in the process's
-// own streams and working directory.
+// contract says of every source, sinks and folder that tell what they hold: what is left is always
+// what the direct run has after the reported steps, and nothing is touched before the run. Of others
+// it says the causes of faults and the order of the work. `main` hands in the process's own streams
+// and working directory.
 #![tactic(auto)]
 
 mod answer;

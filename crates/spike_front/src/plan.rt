@@ -4,7 +4,8 @@ ghost use Rattle.elf_loader.specs.ElfFile.{fault_of};
 ghost use Rattle.elf_loader.specs.declared.image.Image.{Image};
 ghost use Rattle.fe_base.specs.Outside.{Rose};
 ghost use Rattle.folder_tree.specs.Tree.{Tree, IsWellFormed};
-ghost use Rattle.spike_front.specs.Program.{FitsPlan, HasFiles, IsWordsRefusal, plan_of, planned_image, planned_run, run, shown, words_refusal};
+ghost use Rattle.fe_base.specs.WordLists.{main_vars_length};
+ghost use Rattle.spike_front.specs.Program.{AreTooLong, FitsPlan, HasFiles, HasLimitOf, HasSteps, StaysOrOpens, IsWordsRefusal, plan_of, planned_image, planned_run, run, shown, words_refusal};
 
 use crate::answer::Answer;
 use crate::program::{Program, Stop, read_program};
@@ -66,6 +67,8 @@ fn plan_image(
     ensures fits { IfOk result FitsPlan }
     ensures command { IfOk result (λ plan. (a : Answer) → plan ≡ Plan.Refuse a → IsWordsRefusal a → ⊥) }
     ensures memory { OnErr result (result ≡ Err Stop.OutOfMemory) }
+    ensures too_long { IfOk result (λ plan. (n : ℕ) → plan ≡ Plan.Refuse (Answer.ArgsTooLong n) → (n ≡ main_vars_length (drop file words.now)) × (65536 < n)) }
+    ensures limit { IfOk result (λ plan. HasSteps plan steps) }
 {
     let image = match read_elf(alloc, bytes) {
         Ok(image) => image,
@@ -93,6 +96,9 @@ fn plan_run<F: Folder>(
     ensures told { IfOk result (λ plan. (t : Tree) → IsWellFormed t → F.tree folder.old ≡ Some t
         → (shown plan ≡ planned_run steps file words.now t) × (F.tree folder.new ≡ Some t)) }
     ensures files { (t : Tree) → F.tree folder.old ≡ Some t → HasFiles t (F.tree folder.new) }
+    ensures opens { (t : Tree) → IsWellFormed t → F.tree folder.old ≡ Some t → StaysOrOpens t (F.tree folder.new) }
+    ensures too_long { IfOk result (λ plan. (n : ℕ) → plan ≡ Plan.Refuse (Answer.ArgsTooLong n) → (n ≡ main_vars_length (drop file words.now)) × (65536 < n)) }
+    ensures limit { IfOk result (λ plan. HasSteps plan steps) }
     ensures fits { IfOk result FitsPlan }
     ensures command { IfOk result (λ plan. (a : Answer) → plan ≡ Plan.Refuse a → IsWordsRefusal a → ⊥) }
     ensures file_fault { IsErrOf result Stop.FileFault → Rose (F.faults folder.old) (F.faults folder.new) }
@@ -117,6 +123,9 @@ pub fn make_plan<F: Folder>(alloc: Global, words: &Words, folder: &mut F) -> Res
     ensures told { IfOk result (λ plan. (t : Tree) → IsWellFormed t → F.tree folder.old ≡ Some t
         → (shown plan ≡ plan_of words.now t) × (F.tree folder.new ≡ Some t)) }
     ensures files { (t : Tree) → F.tree folder.old ≡ Some t → HasFiles t (F.tree folder.new) }
+    ensures opens { (t : Tree) → IsWellFormed t → F.tree folder.old ≡ Some t → StaysOrOpens t (F.tree folder.new) }
+    ensures too_long { (n : ℕ) → result ≡ Ok (Plan.Refuse (Answer.ArgsTooLong n)) → AreTooLong words.now n }
+    ensures steps { IfOk result (HasLimitOf words.now) }
     ensures fits { IfOk result FitsPlan }
     ensures limit { (t : Tree) (image : Image) (args : List (List ℕ)) (limit : ℕ) → plan_of words.now t ≡ run image args limit → 0 < limit }
     ensures file_fault { IsErrOf result Stop.FileFault → Rose (F.faults folder.old) (F.faults folder.new) }

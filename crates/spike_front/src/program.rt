@@ -2,7 +2,7 @@
 ghost use Rattle.std.specs.Prelude.{◌≡◌, ◌≤◌, ◌<◌, IfOk, IsErrOf, Some, length, take, nat_lt, true};
 ghost use Rattle.fe_base.specs.Outside.{Rose};
 ghost use Rattle.folder_tree.specs.Tree.{Tree, IsWellFormed, bytes_of, file_of, opens_of};
-ghost use Rattle.spike_front.specs.Program.{IsProgram, IsReadOf, HasFiles};
+ghost use Rattle.spike_front.specs.Program.{IsProgram, IsReadOf, HasFiles, StaysOrOpens};
 
 use folder_tree::{Folder, FolderStop, Path, PathKind};
 use std::alloc::{AllocError, Global};
@@ -132,6 +132,7 @@ pub fn read_program<F: Folder>(alloc: Global, folder: &mut F, path: &Path) -> Re
     ensures told { IfOk result (λ program. (t : Tree) → IsWellFormed t → F.tree folder.old ≡ Some t
         → IsProgram (file_of t path.now) program × (F.tree folder.new ≡ Some t)) }
     ensures files { (t : Tree) → F.tree folder.old ≡ Some t → HasFiles t (F.tree folder.new) }
+    ensures opens { (t : Tree) → IsWellFormed t → F.tree folder.old ≡ Some t → StaysOrOpens t (F.tree folder.new) }
     ensures faults { F.faults folder.old ≤ F.faults folder.new }
     ensures file_fault { IsErrOf result Stop.FileFault → Rose (F.faults folder.old) (F.faults folder.new) }
     ensures steady { (t : Tree) → F.tree folder.old ≡ Some t → F.steady folder.old

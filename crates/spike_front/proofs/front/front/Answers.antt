@@ -1,4 +1,4 @@
-use Rattle.spike_front.proofs.Endings.{reported_at, said_as, words_said}
+use Rattle.spike_front.proofs.Endings.{reported_at, said_as, said_of, untouched, words_said}
 use Rattle.spike_front.proofs.front.front.Goals as goal
 
 pub returns-clause-refused : goal.returns-clause-refused
@@ -32,7 +32,7 @@ returns-clause-ran g c = λ w image args limit formed told planned.
         console_asked = known.asked w image args limit formed told planned;
         file_fault = known.file_fault;
         file_early = λ h. (known.early h).0;
-        memory_early = known.memory;
+        memory_early = λ h. (known.memory h).0;
         input_fault = known.input_fault;
       },
       λ steady room h. known.suits w image args limit formed told planned steady room h,
@@ -47,3 +47,14 @@ pub returns-clause-other_words : goal.returns-clause-other_words
 returns-clause-other_words g c = λ a known.
     let told = c.command-ending.ensures.other_words a known in
     (said_as a _ _ told.0 c.put_report.ensures.said, reported_at c.put_report.result c.command-ending.result.steps 0 _ _ told.1 c.put_report.ensures.reported)
+
+pub returns-clause-before : goal.returns-clause-before
+returns-clause-before g c =
+    let known = c.command-ending.ensures in
+    (c.command-ending.result.answer, c.put_report.ensures.said, untouched c.command-ending.result.answer (λ h. (known.refusals h).1) (λ h. (known.early h).1) (λ h. (known.memory h).1))
+
+pub returns-clause-too_long : goal.returns-clause-too_long
+returns-clause-too_long g c = λ n h. said_of _ _ _ (λ no. cc) c.put_report.ensures.said h (c.command-ending.ensures.too_long n)
+
+pub returns-clause-spent : goal.returns-clause-spent
+returns-clause-spent g c = λ n h. said_of _ _ _ (λ no. cc) c.put_report.ensures.said h (c.command-ending.ensures.spent n)

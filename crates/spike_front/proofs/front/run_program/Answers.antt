@@ -1,4 +1,4 @@
-use Rattle.std.proofs.Common.{◌≡◌, ◌-◌, ◌≤◌, ◌↔◌, ℕ, max, None, refl, ap, sym, subst, ◌∙◌, arith}
+use Rattle.std.proofs.Common.{◌≡◌, ◌-◌, ◌↔◌, ℕ, max, None, refl, ap, sym, subst, ◌∙◌, arith}
 use Rattle.plain_machine.specs.Direct.{PlainState, direct_of, direct_start, status_of}
 use Rattle.plain_machine.specs.declared.plain.PlainEnd.TheVariants.{StepsSpent as EndSpent}
 use Rattle.spike_front.specs.declared.answer.Answer.TheVariants.{OutOfMemory}

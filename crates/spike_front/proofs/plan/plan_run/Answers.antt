@@ -1,6 +1,5 @@
-use Rattle.std.proofs.Common.{◌≡◌, ◌∙◌, ◌≤◌, ap, sym}
+use Rattle.std.proofs.Common.{◌∙◌, ap, sym}
 use Rattle.folder_tree.specs.Paths.{path_of}
-use Rattle.elf_loader.specs.ElfFile.{fault_of}
 use Rattle.spike_front.proofs.Plans.{large_file, ok_as, run_of_file}
 use Rattle.spike_front.proofs.plan.plan_run.Goals as goal
 

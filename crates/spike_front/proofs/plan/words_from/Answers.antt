@@ -1,4 +1,3 @@
-use Rattle.std.proofs.Common.{◌≡◌}
 use Rattle.spike_front.proofs.Grammar.{copied}
 use Rattle.spike_front.proofs.plan.words_from.Goals as goal
 

@@ -1,7 +1,7 @@
-use Rattle.std.proofs.Common.{◌≡◌, ◌∙◌, true, nat_lt, rules}
+use Rattle.std.proofs.Common.{◌≡◌, ◌∙◌, inl, inr, rules}
 use borrow.Author.Tests.{lt-ltb}
-use Rattle.folder_tree.specs.Tree.{kind_of, opens_of}
-use Rattle.folder_tree.specs.TreeOps.{kind_row, open_row, opened, release_row}
+use Rattle.folder_tree.specs.Tree.{kind_of}
+use Rattle.folder_tree.specs.TreeOps.{kind_row, open_row, release_row}
 use Rattle.folder_tree.specs.Laws.{kind_told, open_told, open_row-suits, release_row-suits, file_of-number}
 use Rattle.folder_tree.specs.declared.folder.PathKind.TheVariants.{File}
 use Rattle.spike_front.proofs.TreeFacts.{refused_told, suits_told, same_files, opened_files, is_open, released_files, released_told, read_program_of}
@@ -68,3 +68,34 @@ returns-in_err-release-clause-steady g c = λ t told steady.
     let on = c.in_ok-program.ensures.steady _ opening.1 still.steady (lt-ltb _ _ (is_open t _)) in
     let last = c.in_err-release.ensures.steady on.1 (suits_told _ _ (release_row _) read (release_row-suits _ _ (is_open t _))) in
     search rules
+
+pub returns-in_err-kind-clause-opens : goal.returns-in_err-kind-clause-opens
+returns-in_err-kind-clause-opens g c = λ t formed told. inl (refused_told t _ (kind_row c.args.path.now) _ (c.in_err-kind.ensures.tree t told))
+
+pub returns-then-ne-clause-opens : goal.returns-then-ne-clause-opens
+returns-then-ne-clause-opens g c = λ t formed told. inl (kind_told t _ _ _ (c.in_ok-kind.ensures.tree t told)).1
+
+pub returns-in_err-number-clause-opens : goal.returns-in_err-number-clause-opens
+returns-in_err-number-clause-opens g c = λ t formed told.
+    let kind = kind_told t _ _ _ (c.in_ok-kind.ensures.tree t told) in
+    inl (refused_told t _ (open_row c.args.path.now) _ (c.in_err-number.ensures.tree t kind.1))
+
+pub returns-in_err-program-clause-opens : goal.returns-in_err-program-clause-opens
+returns-in_err-program-clause-opens g c = λ t formed told.
+    let kind = kind_told t _ _ _ (c.in_ok-kind.ensures.tree t told) in
+    let opening = open_told t _ _ _ (c.in_ok-number.ensures.tree t kind.1) in
+    inr (c.in_ok-number.number, c.in_err-program.ensures.tree _ opening.1)
+
+pub returns-in_err-release-clause-opens : goal.returns-in_err-release-clause-opens
+returns-in_err-release-clause-opens g c = λ t formed told.
+    let kind = kind_told t _ _ _ (c.in_ok-kind.ensures.tree t told) in
+    let opening = open_told t _ _ _ (c.in_ok-number.ensures.tree t kind.1) in
+    let read = c.in_ok-program.ensures.tree _ opening.1 in
+    inr (c.in_ok-number.number, refused_told _ _ (release_row c.in_ok-number.number) _ (c.in_err-release.ensures.tree _ read))
+
+pub returns-clause-opens : goal.returns-clause-opens
+returns-clause-opens g c = λ t formed told.
+    let kind = kind_told t _ _ _ (c.in_ok-kind.ensures.tree t told) in
+    let opening = open_told t _ _ _ (c.in_ok-number.ensures.tree t kind.1) in
+    let read = c.in_ok-program.ensures.tree _ opening.1 in
+    inl (released_told t _ _ _ formed opening.0 (c.in_ok-release.ensures.tree _ read))

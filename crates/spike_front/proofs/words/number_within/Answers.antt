@@ -1,4 +1,4 @@
-use Rattle.std.proofs.Common.{rules, ◌≡◌, ◌≢◌, ◌<◌, ◌≤◌, ◌^◌, get_or, length, sym, arith}
+use Rattle.std.proofs.Common.{rules, ◌≢◌, get_or, sym, arith}
 use Rattle.std.proofs.lemmas.Str.Parse.{parse_plain}
 use Rattle.spike_front.proofs.Numbers.{decimals, number_refused, number_taken, when_err, when_ok}
 use Rattle.spike_front.proofs.words.number_within.Goals as goal

@@ -1,4 +1,4 @@
-use Rattle.std.proofs.Common.{◌≡◌, ◌∙◌, sym}
+use Rattle.std.proofs.Common.{◌∙◌, sym}
 use Rattle.spike_front.proofs.Grammar.{command-plain, command-unbuilt, command-unknown}
 use Rattle.spike_front.proofs.words.read_command.Goals as goal
 

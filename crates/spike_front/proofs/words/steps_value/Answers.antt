@@ -1,4 +1,4 @@
-use Rattle.std.proofs.Common.{◌≡◌, ◌∙◌, sym}
+use Rattle.std.proofs.Common.{◌∙◌, sym}
 use Rattle.spike_front.proofs.Grammar.{value_given, value_refused}
 use Rattle.spike_front.proofs.words.steps_value.Goals as goal
 
