@@ -235,22 +235,3 @@ asked_there m n s d machine at steps start asked none =
 pub said_of : {P : Type 0} (e result a : Answer) → (a ≡ ReportFault → ⊥) → IsSaid e result → result ≡ a → (e ≡ a → P) → P
 said_of e result a other (inl same) is then = then (sym same ∙ is)
 said_of e result a other (inr fault) is then = absurd (other (sym is ∙ fault))
-
-stop_is : (a : Answer) → IsStop a → (a ≡ FileFault) ⊎ (a ≡ OutOfMemory)
-stop_is FileFault stop = inl refl
-stop_is OutOfMemory stop = inr refl
-stop_is InputFault stop = absurd stop
-stop_is ConsoleFault stop = absurd stop
-stop_is ReportFault stop = absurd stop
-stop_is (Exited status) stop = absurd stop
-stop_is (Usage kind place) stop = absurd stop
-stop_is NoProgram stop = absurd stop
-stop_is (BadElf fault) stop = absurd stop
-stop_is (ArgsTooLong n) stop = absurd stop
-stop_is (StepsSpent n) stop = absurd stop
-stop_is (NotBuilt kind) stop = absurd stop
-
--- what holds of a refusal and of what ends the work before a run
-pub untouched : {P : Type 0} (a : Answer) → (IsRefusal a → P) → (a ≡ FileFault → P) → (a ≡ OutOfMemory → P) → IsRefusal a ⊎ IsStop a → P
-untouched a refusal file memory (inl refused) = refusal refused
-untouched a refusal file memory (inr stop) = elim (stop_is a stop) [ inl is ↦ file is | inr is ↦ memory is ]

@@ -181,9 +181,7 @@ pub fn front<I: Source, C: Sink, R: Sink, F: Folder>(
         → (input.new ≡ input.old) × (console.new ≡ console.old) × HasFiles t (F.tree folder.new) }
     ensures refusal_untouched { IsRefusal result → (input.new ≡ input.old) × (console.new ≡ console.old) }
 
-    // Whatever the objects tell: where no program was run, the console was not called, also where the report failed
-    // afterwards; and what is answered of the arguments' length and of the limit is so of the words.
-    ensures before { (answer : Answer) × IsSaid answer result × (IsRefusal answer ⊎ IsStop answer → console.new ≡ console.old) }
+    // Whatever the objects tell, what is answered of the arguments' length and of the limit is so of the words.
     ensures too_long { (n : ℕ) → result ≡ Answer.ArgsTooLong n → AreTooLong words.now n }
     ensures spent { (n : ℕ) → result ≡ Answer.StepsSpent n → HasLimit words.now n }
 
@@ -204,10 +202,11 @@ pub fn front<I: Source, C: Sink, R: Sink, F: Folder>(
         × (F.steady folder.old → answer ≡ Answer.FileFault → ⊥)
         × ((IsStop answer → ⊥) → F.tree folder.new ≡ Some w.tree) }
 
-    // Each fault comes only where the count of that object rose in this call, and a fault of the folder before the console
-    // was called. No step that is built reads input.
+    // Each fault comes only where the count of that object rose in this call, and a fault of the folder, as want of memory,
+    // before the console was called. No step that is built reads input.
     ensures file_fault { result ≡ Answer.FileFault → Rose (F.faults folder.old) (F.faults folder.new) }
     ensures file_fault_early { result ≡ Answer.FileFault → console.new ≡ console.old }
+    ensures out_of_memory_early { result ≡ Answer.OutOfMemory → console.new ≡ console.old }
     ensures console_fault { result ≡ Answer.ConsoleFault → Rose (C.faults console.old) (C.faults console.new) }
     ensures report_fault { result ≡ Answer.ReportFault → Rose (R.faults report.old) (R.faults report.new) }
     ensures input_fault { result ≡ Answer.InputFault → ⊥ }

@@ -1,4 +1,4 @@
-use Rattle.spike_front.proofs.Endings.{reported_at, said_as, said_of, untouched, words_said}
+use Rattle.spike_front.proofs.Endings.{reported_at, said_as, said_of, words_said}
 use Rattle.spike_front.proofs.front.front.Goals as goal
 
 pub returns-clause-refused : goal.returns-clause-refused
@@ -48,10 +48,8 @@ returns-clause-other_words g c = λ a known.
     let told = c.command-ending.ensures.other_words a known in
     (said_as a _ _ told.0 c.put_report.ensures.said, reported_at c.put_report.result c.command-ending.result.steps 0 _ _ told.1 c.put_report.ensures.reported)
 
-pub returns-clause-before : goal.returns-clause-before
-returns-clause-before g c =
-    let known = c.command-ending.ensures in
-    (c.command-ending.result.answer, c.put_report.ensures.said, untouched c.command-ending.result.answer (λ h. (known.refusals h).1) (λ h. (known.early h).1) (λ h. (known.memory h).1))
+pub returns-clause-out_of_memory_early : goal.returns-clause-out_of_memory_early
+returns-clause-out_of_memory_early g c = λ h. said_of _ _ _ (λ no. cc) c.put_report.ensures.said h (λ is. (c.command-ending.ensures.memory is).1)
 
 pub returns-clause-too_long : goal.returns-clause-too_long
 returns-clause-too_long g c = λ n h. said_of _ _ _ (λ no. cc) c.put_report.ensures.said h (c.command-ending.ensures.too_long n)
