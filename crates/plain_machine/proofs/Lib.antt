@@ -1,3 +1,4 @@
 pub mod MessageLemmas
 pub mod Places
 pub mod Runs
+pub mod Walks

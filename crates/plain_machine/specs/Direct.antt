@@ -9,7 +9,7 @@ use Rattle.folder_tree.specs.Tree.{Tree}
 use Rattle.guest_memory.specs.Bus.{user_size}
 use Rattle.guest_memory.specs.Memory.{zeros, with_part}
 use Rattle.rv_alu.specs.Effects.{put}
-use Rattle.plain_machine.specs.UserStep.{UserState, UserStep, next, call, trap, user_step}
+use Rattle.plain_machine.specs.UserStep.{UserState, UserStep, next, call, trap, user_step, moves}
 use Rattle.plain_machine.specs.CallTable.{Call, replies, breaks, exits, unbuilt, call_of}
 use Rattle.plain_machine.specs.Messages.{is_counter_access, counter_text, trap_text}
 
@@ -29,6 +29,10 @@ pub data Machine : Type 0 where
 pub record DirectState : Type 0 where
   pub machine : Machine
   pub world : World
+
+-- this machine in this world
+abbrev pub in_world : Machine → World → DirectState
+in_world machine w = record { machine = machine; world = w }
 
 -- a call's answer in a0, at the next instruction
 abbrev pub answered : UserState → ℕ → UserState
@@ -104,7 +108,7 @@ first_machine image args = running (first_state image args) image.first_break im
 
 -- the direct start, from a world
 abbrev pub direct_start : Image → List (List ℕ) → World → DirectState
-direct_start image args w = record { machine = first_machine image args; world = w }
+direct_start image args w = in_world (first_machine image args) w
 
 -- a call is built unless its number is none of the table's
 abbrev pub is_built_call : Call → Bool
@@ -124,6 +128,12 @@ abbrev pub is_built : Machine → Bool
 is_built (running state program_break first_break) = is_built_step state program_break first_break (user_step state)
 is_built (dying text status) = true
 is_built (ended status) = true
+
+-- the machine's next direct step moves its program on and does nothing else
+abbrev pub moves_on : Machine → Bool
+moves_on (running state program_break first_break) = moves (user_step state)
+moves_on (dying text status) = false
+moves_on (ended status) = false
 
 -- the status that a machine has ended with, if it has ended
 abbrev pub status_of : Machine → Option ℕ
@@ -158,7 +168,7 @@ pub record PlainState : Type 0 where
 
 -- a machine over a world
 abbrev pub direct_of : PlainState → World → DirectState
-direct_of plain w = record { machine = plain.machine; world = w }
+direct_of plain w = in_world plain.machine w
 
 -- the objects tell this world
 pub record Tells (w : World) (input console : Option (List ℕ)) (tree : Option Tree) : Type 0 where

@@ -1,5 +1,6 @@
 -- The user step: one instruction on pc, 32 registers and the user bytes.
-use Rattle.std.specs.Prelude.{◌≡◌, ℕ, ◌+◌, ◌-◌, ◌%◌, ◌^◌, ◌==◌, ⊤, if◌then◌else◌, Bool, List, Option, Some, None}
+use Rattle.std.specs.Prelude.{◌≡◌, ℕ, ◌+◌, ◌-◌, ◌%◌, ◌^◌, ◌==◌, ⊤, if◌then◌else◌, Bool, true, false, List, Option, Some, None, refl}
+use Rattle.std.proofs.Common.{zero, suc, add-one, ap}
 use Rattle.fe_base.specs.ByteRanges.{first_failing, is_between}
 use Rattle.fe_base.specs.MemoryMap.{user_start, user_end}
 use Rattle.guest_memory.specs.Memory.{load, store}
@@ -92,3 +93,30 @@ abbrev pub Stays : Outcome → UserState → UserState → Type 0
 Stays Moved old new = ⊤
 Stays Called old new = new ≡ old
 Stays (Trapped cause value) old new = new ≡ old
+
+-- a user step moves on: it is no call and no trap
+abbrev pub moves : UserStep → Bool
+moves (next moved) = true
+moves call = false
+moves (trap cause value) = false
+
+-- the state after a user step: its next state; a call and a trap leave the state as it was
+abbrev pub state_after : UserStep → UserState → UserState
+state_after (next moved) state = moved
+state_after call state = state
+state_after (trap cause value) state = state
+
+-- the state after so many user steps; the first call or trap is where it stays
+unfoldable pub walked : ℕ → UserState → UserState
+walked zero state = state
+walked (suc n) state = state_after (user_step (walked n state)) (walked n state)
+
+-- after no step the state is the first one
+pub walked-zero : (state : UserState) → walked 0 state ≡ state
+unfolding walked
+walked-zero state = refl
+
+-- one step more is the step of the state reached
+pub walked-next : (n : ℕ) (state : UserState) → walked (n + 1) state ≡ state_after (user_step (walked n state)) (walked n state)
+unfolding walked
+walked-next n state = ap (λ k. walked k state) (add-one n)

@@ -1,5 +1,5 @@
 // What a user program sees of the hart, and its steps.
-ghost use Rattle.std.specs.Prelude.{◌≡◌, ◌<◌, ◌-◌, ◌^◌, length, IsTrue, IsSome, IsNone, IfSome, false, take, drop, slice_set};
+ghost use Rattle.std.specs.Prelude.{◌≡◌, ◌≢◌, ◌<◌, ◌≤◌, ◌-◌, ◌^◌, ℕ, length, IsTrue, IsSome, IsNone, IfSome, Some, true, false, take, drop, slice_set};
 ghost use Rattle.fe_base.specs.MemoryMap.{user_start, kernel_start};
 ghost use Rattle.guest_memory.specs.Bus.{is_ram};
 ghost use Rattle.guest_memory.specs.Memory.{is_width, zeros};
@@ -7,11 +7,11 @@ ghost use Rattle.rv_alu.specs.Effects.{IsInRange};
 ghost use Rattle.plain_machine.specs.CallTable.{is_buffer};
 ghost use Rattle.plain_machine.specs.Direct.{answered};
 ghost use Rattle.plain_machine.specs.UserStep as spec;
-ghost use Rattle.plain_machine.specs.UserStep.{user_step, carried, cause_number, made, Stays};
+ghost use Rattle.plain_machine.specs.UserStep.{user_step, carried, cause_number, made, Stays, walked, moves};
 
 use fe_base::memory_map::{USER_END, USER_START};
 use guest_memory::Bus;
-use rv_alu::{Effect, act, loaded, put};
+use rv_alu::{Effect, Size, act, loaded, put};
 use rv_decode::decode;
 use std::marker::Model;
 
@@ -79,7 +79,23 @@ impl Model for Cpu {
     ghost invariant = { λ c. slice_index c.registers 0 ≡ 0 };
 }
 
-// The first byte of an access that is not of the user area.
+// The first byte that is not of the user area, of an access that does not stand whole in it.
+#[cold]
+#[inline(never)]
+#[tactic(auto, using(crate::proofs::Places::outside_lemmas))]
+fn first_outside(at: u64, count: usize) -> u64
+    requires width { IsTrue (is_width count) }
+    requires outside { IsSome (spec.outside at count) }
+    ensures { spec.outside at count ≡ Some result }
+{
+    if USER_START <= at && at < USER_END {
+        USER_END
+    } else {
+        at
+    }
+}
+
+// The first byte of an access that is not of the user area, or None where the access stands whole in it.
 #[inline(always)]
 #[tactic(auto, using(crate::proofs::Places::outside_lemmas))]
 fn outside(at: u64, count: usize) -> Option<u64>
@@ -88,12 +104,11 @@ fn outside(at: u64, count: usize) -> Option<u64>
     ensures inside { IsNone result → IsTrue (is_ram at count) }
     ensures user { IsNone result → at < kernel_start }
 {
-    if at < USER_START || at >= USER_END {
-        Some(at)
-    } else if count as u64 > USER_END - at {
-        Some(USER_END)
-    } else {
+    // An address below the area wraps around to a difference beyond every offset in it.
+    if at.wrapping_sub(USER_START) <= USER_END - USER_START - count as u64 {
         None
+    } else {
+        Some(first_outside(at, count))
     }
 }
 
@@ -164,9 +179,70 @@ impl Cpu {
         self.pc = self.pc.wrapping_add(4);
     }
 
+    // A load of this size to a register, with the next instruction at `after`.
+    #[inline(always)]
+    #[tactic(auto, unfolding(crate::specs::UserStep::carried, guest_memory::specs::Bus::bus_load))]
+    fn load_of(&mut self, size: Size, rd: u8, extends: bool, at: u64, after: u64) -> Outcome
+        requires { rd < 32 }
+        ensures step { carried (Effect.Load rd size extends at) 0 after self.old ≡ made result self.new }
+        ensures stays { Stays result self.old self.new }
+    {
+        if let Some(byte) = outside(at, size.bytes()) {
+            return trapped(Cause::LoadAccess, byte);
+        }
+        let number = self.bus.load(at, size.bytes());
+        put(&mut self.registers, rd, loaded(size, extends, number));
+        self.pc = after;
+        Outcome::Moved
+    }
+
+    // As `load_of`, by a call for each size: each is compiled for its own width.
+    #[inline(always)]
+    fn load(&mut self, size: Size, rd: u8, extends: bool, at: u64, after: u64) -> Outcome
+        requires { rd < 32 }
+        ensures step { carried (Effect.Load rd size extends at) 0 after self.old ≡ made result self.new }
+        ensures stays { Stays result self.old self.new }
+    {
+        match size {
+            Size::Byte => self.load_of(Size::Byte, rd, extends, at, after),
+            Size::Half => self.load_of(Size::Half, rd, extends, at, after),
+            Size::Word => self.load_of(Size::Word, rd, extends, at, after),
+            Size::Double => self.load_of(Size::Double, rd, extends, at, after),
+        }
+    }
+
+    // A store of the low bytes of a value, so many as the size says, with the next instruction at `after`.
+    #[inline(always)]
+    #[tactic(auto, unfolding(crate::specs::UserStep::carried, guest_memory::specs::Bus::bus_store))]
+    fn store_of(&mut self, size: Size, at: u64, value: u64, after: u64) -> Outcome
+        ensures step { carried (Effect.Store size at value) 0 after self.old ≡ made result self.new }
+        ensures stays { Stays result self.old self.new }
+    {
+        if let Some(byte) = outside(at, size.bytes()) {
+            return trapped(Cause::StoreAccess, byte);
+        }
+        self.bus.store(at, size.bytes(), value);
+        self.pc = after;
+        Outcome::Moved
+    }
+
+    // As `store_of`, by a call for each size.
+    #[inline(always)]
+    fn store(&mut self, size: Size, at: u64, value: u64, after: u64) -> Outcome
+        ensures step { carried (Effect.Store size at value) 0 after self.old ≡ made result self.new }
+        ensures stays { Stays result self.old self.new }
+    {
+        match size {
+            Size::Byte => self.store_of(Size::Byte, at, value, after),
+            Size::Half => self.store_of(Size::Half, at, value, after),
+            Size::Word => self.store_of(Size::Word, at, value, after),
+            Size::Double => self.store_of(Size::Double, at, value, after),
+        }
+    }
+
     // An effect of an instruction of these bits, with the next one at `after`.
     #[inline(always)]
-    #[tactic(auto, unfolding(crate::specs::UserStep::carried, guest_memory::specs::Bus::bus_load, guest_memory::specs::Bus::bus_store))]
+    #[tactic(auto, unfolding(crate::specs::UserStep::carried))]
     fn carry(&mut self, effect: Effect, bits: u32, after: u64) -> Outcome
         requires { IsInRange effect }
         ensures step { carried effect bits after self.old ≡ made result self.new }
@@ -190,21 +266,8 @@ impl Cpu {
                 size,
                 extends,
                 at,
-            } => {
-                if let Some(byte) = outside(at, size.bytes()) {
-                    return trapped(Cause::LoadAccess, byte);
-                }
-                let number = self.bus.load(at, size.bytes());
-                put(&mut self.registers, rd, loaded(size, extends, number));
-                self.pc = after;
-            }
-            Effect::Store { size, at, value } => {
-                if let Some(byte) = outside(at, size.bytes()) {
-                    return trapped(Cause::StoreAccess, byte);
-                }
-                self.bus.store(at, size.bytes(), value);
-                self.pc = after;
-            }
+            } => return self.load(size, rd, extends, at, after),
+            Effect::Store { size, at, value } => return self.store(size, at, value, after),
             Effect::Call => return Outcome::Called,
             Effect::Break => return trapped(Cause::Breakpoint, self.pc),
             Effect::Csr { .. } | Effect::Return | Effect::Wait => {
@@ -214,10 +277,10 @@ impl Cpu {
         Outcome::Moved
     }
 
-    /// One user step.
+    // One instruction, or the call or the trap that it is. Only `walk` calls it.
     #[inline(always)]
     #[tactic(auto, unfolding(guest_memory::specs::Bus::bus_load))]
-    pub fn step(&mut self) -> Outcome
+    fn execute(&mut self) -> Outcome
         ensures step { user_step self.old ≡ made result self.new }
         ensures stays { Stays result self.old self.new }
     {
@@ -230,5 +293,34 @@ impl Cpu {
         };
         let effect = act(insn, self.pc, &self.registers);
         self.carry(effect, word, self.pc.wrapping_add(4))
+    }
+
+    /// User steps that move on, at most so many: how many were made, and the call or the trap that came next, or Moved where
+    /// none did. A call and a trap are not counted, and leave the state as it was.
+    // Out of line, since it has two callers: `execute`, with all that it calls, is to stand in the program once.
+    #[inline(never)]
+    pub fn walk(&mut self, most: u64) -> (u64, Outcome)
+        ensures after { self.new ≡ walked result.0 self.old }
+        ensures each { (n : ℕ) → n < result.0 → moves (user_step (walked n self.old)) ≡ true }
+        ensures most { result.0 ≤ most }
+        ensures moved { result.1 ≡ Outcome.Moved → result.0 ≡ most }
+        ensures stopped { result.1 ≢ Outcome.Moved → (result.0 < most) × (user_step self.new ≡ made result.1 self.new) }
+    {
+        let mut count = 0;
+        'steps: while count < most {
+            match self.execute() {
+                Outcome::Moved => count += 1,
+                outcome => return (count, outcome),
+            }
+        }
+        (count, Outcome::Moved)
+    }
+
+    /// One user step: a walk of at most one, so that the code of an instruction stands in the program once.
+    pub fn step(&mut self) -> Outcome
+        ensures step { user_step self.old ≡ made result self.new }
+        ensures stays { Stays result self.old self.new }
+    {
+        self.walk(1).1
     }
 }

@@ -1,7 +1,7 @@
 // A program that runs, says its last words, or has ended.
-ghost use Rattle.std.specs.Prelude.{◌≡◌, ◌≢◌, ◌≤◌, [], ℕ, List, Some, ◌∷◌, IsErrOf, IfErr, IsOk, OnOk, OnErr, length, false, ◌↔◌};
+ghost use Rattle.std.specs.Prelude.{◌≡◌, ◌≢◌, ◌≤◌, ◌<◌, [], ℕ, List, Some, ◌∷◌, IsErrOf, IfErr, IsOk, OnOk, OnErr, length, true, false, ◌↔◌};
 ghost use Rattle.fe_base.specs.Outside.{capacity, HasCause, Puts, PutSuits, Rose};
-ghost use Rattle.plain_machine.specs.Direct.{World, machine_step, is_built, status_of, step_puts};
+ghost use Rattle.plain_machine.specs.Direct.{World, machine_step, is_built, status_of, step_puts, in_world, direct_after, moves_on};
 ghost use Rattle.plain_machine.specs.Machines.{Reaches, IsPossible};
 
 use crate::PlainFault;
@@ -74,6 +74,21 @@ impl Machine {
         match self.phase {
             Phase::Ended(status) => Some(status),
             _ => None,
+        }
+    }
+
+    /// Steps, at most so many, as long as each is an instruction that moves the program on; how many were made. They leave the
+    /// console, the input and the files alone.
+    pub fn walk(&mut self, most: u64) -> u64
+        ensures after { (w : World) → direct_after result (in_world self.old w) ≡ in_world self.new w }
+        ensures each { (w : World) (n : ℕ) → n < result → moves_on (direct_after n (in_world self.old w)).machine ≡ true }
+        ensures most { result ≤ most }
+        ensures stopped { result < most → moves_on self.new ≡ false }
+        ensures status { status_of self.new ≡ status_of self.old }
+    {
+        match self.phase {
+            Phase::Running => self.cpu.walk(most).0,
+            Phase::Dying { .. } | Phase::Ended(_) => 0,
         }
     }
 

@@ -57,7 +57,7 @@ impl Plain {
     ghost use Rattle.elf_loader.specs.ElfFile.{IsFit};
     ghost use Rattle.fe_base.specs.WordLists.{main_vars_length};
     ghost use Rattle.folder_tree.specs.Paths.{path_text};
-    ghost use Rattle.plain_machine.specs.Direct.{World, Tells, IsAt, HasRoomFor, ended, status_of, direct_step, direct_after, direct_of, is_built, step_puts, first_machine};
+    ghost use Rattle.plain_machine.specs.Direct.{World, Tells, IsAt, HasRoomFor, ended, status_of, direct_step, direct_after, direct_of, is_built, moves_on, step_puts, first_machine};
 
     /// A program before its first step: its image and its arguments stand in the user area. The root is where the paths of
     /// its calls begin; no call that is built names a path, so nothing keeps it.
@@ -190,6 +190,8 @@ impl Plain {
             → result ≡ PlainEnd.Fault PlainFault.ConsoleFault → ⊥ }
     {
         'steps: while self.steps < limit && self.status().is_none() {
+            // The walk leaves a step below the limit for `step`, which makes what a walk cannot.
+            self.walk(limit - 1);
             if let Err(fault) = self.step(folder, input, console) {
                 return PlainEnd::Fault(fault);
             }
@@ -198,6 +200,19 @@ impl Plain {
             Some(status) => PlainEnd::Exited(status),
             None => PlainEnd::StepsSpent,
         }
+    }
+
+    // Steps that move the program on and do nothing else, until the next one is another or this limit's steps were made, those
+    // of earlier calls among them.
+    fn walk(&mut self, limit: u64)
+        ensures after { (w : World) → direct_after (self.new.steps - self.old.steps) (direct_of self.old w) ≡ direct_of self.new w }
+        ensures each { (w : World) (n : ℕ) → n < self.new.steps - self.old.steps → moves_on (direct_after n (direct_of self.old w)).machine ≡ true }
+        ensures later { self.old.steps ≤ self.new.steps }
+        ensures within { self.new.steps ≤ max limit self.old.steps }
+        ensures stopped { self.new.steps < limit → moves_on self.new.machine ≡ false }
+        ensures status { status_of self.new.machine ≡ status_of self.old.machine }
+    {
+        self.steps += self.machine.walk(limit.saturating_sub(self.steps));
     }
 
     // The status, where the machine has ended.

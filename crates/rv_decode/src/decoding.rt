@@ -115,21 +115,27 @@ fn decode_op_imm(word: u32) -> Option<Insn>
     let rd = rd_in(word);
     let rs1 = rs1_in(word);
     let imm = i_imm(word);
-    let amount = amount_in(word);
     match funct3_in(word) {
         0 => Some(Insn::Addi { rd, rs1, imm }),
-        1 => match funct6_in(word) {
-            0 => Some(Insn::Slli { rd, rs1, amount }),
-            _ => None,
-        },
+        // Only a shift needs its amount: above, it would be computed for each of these instructions.
+        1 => {
+            let amount = amount_in(word);
+            match funct6_in(word) {
+                0 => Some(Insn::Slli { rd, rs1, amount }),
+                _ => None,
+            }
+        }
         2 => Some(Insn::Slti { rd, rs1, imm }),
         3 => Some(Insn::Sltiu { rd, rs1, imm }),
         4 => Some(Insn::Xori { rd, rs1, imm }),
-        5 => match funct6_in(word) {
-            0 => Some(Insn::Srli { rd, rs1, amount }),
-            0x10 => Some(Insn::Srai { rd, rs1, amount }),
-            _ => None,
-        },
+        5 => {
+            let amount = amount_in(word);
+            match funct6_in(word) {
+                0 => Some(Insn::Srli { rd, rs1, amount }),
+                0x10 => Some(Insn::Srai { rd, rs1, amount }),
+                _ => None,
+            }
+        }
         6 => Some(Insn::Ori { rd, rs1, imm }),
         7 => Some(Insn::Andi { rd, rs1, imm }),
         _ => None,

@@ -25,45 +25,6 @@ fn small_bits(word: u32, low: u32, count: u32) -> u8
     bits(word, low, count) as u8
 }
 
-// A field of 12 bits, read in two's complement.
-#[inline(always)]
-fn signed_12(field: u32) -> i32
-    requires { field < 2 ^ 12 }
-    ensures { result ≡ spec.signed 12 field }
-{
-    if field < 0x800 {
-        field as i32
-    } else {
-        field as i32 - 0x1000
-    }
-}
-
-// As `signed_12`, of 13 bits.
-#[inline(always)]
-fn signed_13(field: u32) -> i32
-    requires { field < 2 ^ 13 }
-    ensures { result ≡ spec.signed 13 field }
-{
-    if field < 0x1000 {
-        field as i32
-    } else {
-        field as i32 - 0x2000
-    }
-}
-
-// As `signed_12`, of 21 bits.
-#[inline(always)]
-fn signed_21(field: u32) -> i32
-    requires { field < 2 ^ 21 }
-    ensures { result ≡ spec.signed 21 field }
-{
-    if field < 0x10_0000 {
-        field as i32
-    } else {
-        field as i32 - 0x20_0000
-    }
-}
-
 #[inline(always)]
 pub fn opcode_in(word: u32) -> u32
     ensures { result ≡ spec.opcode word }
@@ -135,7 +96,7 @@ pub fn upper_imm(word: u32) -> u32
 pub fn i_imm(word: u32) -> i32
     ensures { result ≡ spec.i_at word }
 {
-    signed_12(bits(word, 20, 12))
+    word.cast_signed() >> 20
 }
 
 // The S-immediate.
@@ -143,7 +104,7 @@ pub fn i_imm(word: u32) -> i32
 pub fn s_imm(word: u32) -> i32
     ensures { result ≡ spec.s_at word }
 {
-    signed_12((bits(word, 25, 7) << 5) + bits(word, 7, 5))
+    ((word.cast_signed() >> 25) << 5) + bits(word, 7, 5) as i32
 }
 
 // The B-immediate, a branch's offset.
@@ -151,12 +112,8 @@ pub fn s_imm(word: u32) -> i32
 pub fn b_imm(word: u32) -> i32
     ensures { result ≡ spec.b_at word }
 {
-    signed_13(
-        (bits(word, 31, 1) << 12)
-            + (bits(word, 7, 1) << 11)
-            + (bits(word, 25, 6) << 5)
-            + (bits(word, 8, 4) << 1),
-    )
+    let low = (bits(word, 7, 1) << 11) + (bits(word, 25, 6) << 5) + (bits(word, 8, 4) << 1);
+    ((word.cast_signed() >> 31) << 12) + low as i32
 }
 
 // The J-immediate, a jump's offset.
@@ -164,12 +121,8 @@ pub fn b_imm(word: u32) -> i32
 pub fn j_imm(word: u32) -> i32
     ensures { result ≡ spec.j_at word }
 {
-    signed_21(
-        (bits(word, 31, 1) << 20)
-            + (bits(word, 12, 8) << 12)
-            + (bits(word, 20, 1) << 11)
-            + (bits(word, 21, 10) << 1),
-    )
+    let low = (bits(word, 12, 8) << 12) + (bits(word, 20, 1) << 11) + (bits(word, 21, 10) << 1);
+    ((word.cast_signed() >> 31) << 20) + low as i32
 }
 
 #[inline(always)]

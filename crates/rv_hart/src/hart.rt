@@ -1,5 +1,5 @@
 // A hart and its step.
-ghost use Rattle.std.specs.Prelude.{◌≡◌, ◌<◌};
+ghost use Rattle.std.specs.Prelude.{◌≡◌, ◌≢◌, ◌<◌};
 ghost use Rattle.guest_memory.specs.Bus.{IsBus};
 ghost use Rattle.guest_memory.specs.Memory.{zeros};
 ghost use Rattle.rv_alu.specs.Effects as effect_spec;
@@ -170,10 +170,10 @@ impl Hart {
         self.pc = after;
     }
 
-    // A load to a register, with the next instruction at `after`.
+    // A load of this size to a register, with the next instruction at `after`.
     #[inline(always)]
     #[tactic(auto, using(crate::proofs::RegisterLemmas::registers))]
-    fn load(&mut self, bus: &Bus, rd: u8, size: Size, extends: bool, at: u64, after: u64)
+    fn load_of(&mut self, bus: &Bus, size: Size, rd: u8, extends: bool, at: u64, after: u64)
         requires { rd < 32 }
         ensures step { load_step rd size extends at after (over bus.now self.old) ≡ over bus.now self.new }
         ensures run { self.new.run ≡ self.old.run }
@@ -188,9 +188,25 @@ impl Hart {
         }
     }
 
-    // A store of a number, with the next instruction at `after`.
+    // As `load_of`, by a call for each size: each is compiled for its own width.
     #[inline(always)]
-    fn store(&mut self, bus: &mut Bus, size: Size, at: u64, value: u64, after: u64)
+    fn load(&mut self, bus: &Bus, size: Size, rd: u8, extends: bool, at: u64, after: u64)
+        requires { rd < 32 }
+        ensures step { load_step rd size extends at after (over bus.now self.old) ≡ over bus.now self.new }
+        ensures run { self.new.run ≡ self.old.run }
+        ensures range { IsHart self.new }
+    {
+        match size {
+            Size::Byte => self.load_of(bus, Size::Byte, rd, extends, at, after),
+            Size::Half => self.load_of(bus, Size::Half, rd, extends, at, after),
+            Size::Word => self.load_of(bus, Size::Word, rd, extends, at, after),
+            Size::Double => self.load_of(bus, Size::Double, rd, extends, at, after),
+        }
+    }
+
+    // A store of the low bytes of a number, so many as the size says, with the next instruction at `after`.
+    #[inline(always)]
+    fn store_of(&mut self, bus: &mut Bus, size: Size, at: u64, value: u64, after: u64)
         ensures step { store_step size at value after (over bus.old self.old) ≡ over bus.new self.new }
         ensures run { self.new.run ≡ self.old.run }
         ensures range { IsHart self.new }
@@ -199,6 +215,22 @@ impl Hart {
         match write(bus, &self.csrs, self.mode, at, size.bytes(), value) {
             Ok(()) => self.pc = after,
             Err(byte) => self.trap(Cause::StoreAccess, byte),
+        }
+    }
+
+    // As `store_of`, by a call for each size.
+    #[inline(always)]
+    fn store(&mut self, bus: &mut Bus, size: Size, at: u64, value: u64, after: u64)
+        ensures step { store_step size at value after (over bus.old self.old) ≡ over bus.new self.new }
+        ensures run { self.new.run ≡ self.old.run }
+        ensures range { IsHart self.new }
+        ensures bytes { IsBus bus.old → IsBus bus.new }
+    {
+        match size {
+            Size::Byte => self.store_of(bus, Size::Byte, at, value, after),
+            Size::Half => self.store_of(bus, Size::Half, at, value, after),
+            Size::Word => self.store_of(bus, Size::Word, at, value, after),
+            Size::Double => self.store_of(bus, Size::Double, at, value, after),
         }
     }
 
@@ -230,7 +262,7 @@ impl Hart {
                 size,
                 extends,
                 at,
-            } => self.load(bus, rd, size, extends, at, after),
+            } => self.load(bus, size, rd, extends, at, after),
             Effect::Store { size, at, value } => self.store(bus, size, at, value, after),
             Effect::Csr {
                 rd,
@@ -284,6 +316,22 @@ impl Hart {
         }
     }
 
+    // A step of a hart that does not run; out of line, for the speed of those that do.
+    #[cold]
+    #[inline(never)]
+    fn rest(&mut self, bus: &Bus)
+        requires { self.old.run ≢ Run.Running }
+        ensures step { over bus.now self.new ≡ hart_step (over bus.now self.old) }
+        ensures unhalted { IsUnhalted self.old.run → IsUnhalted self.new.run }
+        ensures range { IsHart self.new }
+    {
+        if let Run::Held = self.run {
+            if start_word(bus) != 0 {
+                self.run = Run::Running;
+            }
+        }
+    }
+
     /// One step over the bus, where the debug lines ask for nothing; they stay as they are. A held hart begins to run where
     /// the start word is not 0. One that runs makes one instruction or takes its trap. One that is halted stays as it is.
     #[inline(always)]
@@ -296,16 +344,11 @@ impl Hart {
         ensures bytes { IsBus bus.old → IsBus bus.new }
     {
         match self.run {
-            Run::Held => {
-                if start_word(bus) != 0 {
-                    self.run = Run::Running;
-                }
-            }
             Run::Running => {
                 self.count();
                 self.execute(bus);
             }
-            Run::Halted { .. } => {}
+            Run::Held | Run::Halted { .. } => self.rest(bus),
         }
     }
 }
