@@ -1,5 +1,6 @@
 pub mod UserStep
 pub mod CallTable
+pub mod KernelPart
 pub mod Messages
 pub mod Direct
 pub mod Machines
