@@ -1,6 +1,7 @@
 -- The bus of the target: two areas of RAM and the start word.
-use Rattle.std.specs.Prelude.{◌≡◌, ◌<◌, ◌^◌, ℕ, ◌+◌, ◌-◌, ◌%◌, ◌==◌, Bool, ◌&&◌, ◌||◌, nat_lt, nat_le, if◌then◌else◌, Option, List, length, take, drop}
+use Rattle.std.specs.Prelude.{◌≡◌, ◌<◌, ◌^◌, ℕ, ◌-◌, ◌==◌, nat_lt, if◌then◌else◌, Option, List, length, take, drop}
 use Rattle.core.specs.Bool.{then_some}
+pub use Rattle.fe_base.specs.MemoryMap.{is_within, is_ram, is_mapped, is_beat}
 use Rattle.fe_base.specs.MemoryMap.{user_start, user_end, start_word, kernel_start, kernel_end}
 use Rattle.guest_memory.specs.Memory.{zeros, load, store, with_part, AreBytes}
 
@@ -30,18 +31,6 @@ pub record IsBus (bus : BusState) : Type 0 where
   pub kernel_bytes : AreBytes bus.kernel
   pub start_bits : bus.start < 2 ^ 64
 
--- n bytes from an address on stand whole from a first address up to an end; for no bytes, that address stands there or at the end
-abbrev pub is_within : ℕ → ℕ → ℕ → ℕ → Bool
-is_within first end at n = nat_le first at && nat_le (at + n) end
-
--- n bytes from an address on stand whole in one area of RAM
-abbrev pub is_ram : ℕ → ℕ → Bool
-is_ram at n = is_within user_start user_end at n || is_within kernel_start kernel_end at n
-
--- a byte is mapped where it is one of RAM or of the start word
-abbrev pub is_mapped : ℕ → Bool
-is_mapped at = is_ram at 1 || is_within start_word (start_word + 8) at 1
-
 -- the area of an address in RAM
 abbrev pub area : BusState → ℕ → List ℕ
 area bus at = if nat_lt at kernel_start then bus.user else bus.kernel
@@ -69,10 +58,6 @@ bus_bytes bus at n = take n (drop (offset at) (area bus at))
 -- the bus with others in the place of its bytes from an address in RAM on
 unfoldable pub with_bus_bytes : BusState → ℕ → List ℕ → BusState
 with_bus_bytes bus at bytes = with_area bus at (with_part (area bus at) (offset at) bytes)
-
--- the bus moves whole doublewords: those at a multiple of 8 that is mapped
-abbrev pub is_beat : ℕ → Bool
-is_beat at = at % 8 == 0 && is_mapped at
 
 -- the doubleword at an address, where there is one
 unfoldable pub beat : BusState → ℕ → Option ℕ
