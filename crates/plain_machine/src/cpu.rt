@@ -12,7 +12,7 @@ ghost use Rattle.plain_machine.specs.UserStep.{user_step, carried, cause_number,
 use fe_base::memory_map::{USER_END, USER_START};
 use guest_memory::Bus;
 use rv_alu::{Effect, Size, act, loaded, put};
-use rv_decode::decode;
+use rv_decode::Decoder;
 use std::marker::Model;
 
 /// Why a trap is taken.
@@ -66,6 +66,7 @@ pub struct Cpu {
     pc: u64,
     registers: [u64; 32],
     bus: Bus,
+    decoder: Decoder,
 }
 
 impl Model for Cpu {
@@ -138,6 +139,7 @@ impl Cpu {
             pc: entry,
             registers: first_registers(sp),
             bus,
+            decoder: Decoder::new(),
         }
     }
 
@@ -288,10 +290,10 @@ impl Cpu {
             return trapped(Cause::FetchAccess, byte);
         }
         let word = self.bus.load(self.pc, 4) as u32;
-        let Some(insn) = decode(word) else {
+        let Some(insn) = self.decoder.decode(self.pc, word) else {
             return trapped(Cause::Illegal, u64::from(word));
         };
-        let effect = act(insn, self.pc, &self.registers);
+        let effect = act::<Cpu>(insn, self.pc, &self.registers);
         self.carry(effect, word, self.pc.wrapping_add(4))
     }
 

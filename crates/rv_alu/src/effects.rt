@@ -307,14 +307,15 @@ fn multiply(op: MulOp, rd: u8, rs1: u8, rs2: u8, registers: &[u64; 32]) -> Effec
 }
 
 /// The effect of an instruction at `pc` over the registers x0 to x31, of which x0 is taken as it is
-/// given. The sums of addresses wrap at 64 bits.
+/// given. The sums of addresses wrap at 64 bits. `M` is the machine that carries it out: each has an
+/// instance of its own, so that the instance's one call is compiled in line.
 #[tactic(auto, unfolding(crate::specs::Effects::effect_of))]
-pub fn act(insn: Insn, pc: u64, registers: &[u64; 32]) -> Effect
-    requires { IsFit insn }
-    ensures effect { result ≡ effect_of insn pc registers.now }
+pub fn act<M>(insn: &Insn, pc: u64, registers: &[u64; 32]) -> Effect
+    requires { IsFit insn.now }
+    ensures effect { result ≡ effect_of insn.now pc registers.now }
     ensures in_range { IsInRange result }
 {
-    match insn {
+    match *insn {
         Insn::Lui { rd, imm } => Effect::Set {
             rd,
             value: upper(imm),

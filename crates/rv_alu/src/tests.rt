@@ -322,7 +322,7 @@ fn effects(rt: HostRuntime) -> Result<(), Fail> {
     ];
     for (word, want) in rows {
         let insn = decode(word).ok_or("no row")?;
-        assert_eq!(rt; act(insn, 0x1_0000, &registers), want, "{word:#x}");
+        assert_eq!(rt; act::<()>(&insn, 0x1_0000, &registers), want, "{word:#x}");
     }
     assert_eq!(rt; loaded(Size::Byte, true, 0x80), 0xffff_ffff_ffff_ff80);
     assert_eq!(rt; loaded(Size::Half, true, 0x7fff), 0x7fff);

@@ -7,9 +7,13 @@
 // instruction's row, for fields that are in the ranges of `specs/Fits`, and decoding that word gives
 // the instruction back.
 //
+// A `Decoder` answers the same, and keeps the words that it decoded last with their instructions, for
+// machines that step.
+//
 // The table holds RV64I, M, Zicsr, Zifencei, MRET and WFI. Nothing here takes memory.
 #![tactic(auto)]
 
+mod decoder;
 mod decoding;
 mod encoding;
 mod instruction;
@@ -18,6 +22,7 @@ mod opcodes;
 mod tests;
 mod word_fields;
 
+pub use decoder::Decoder;
 pub use decoding::decode;
 pub use encoding::encode;
 pub use instruction::{Cond, Insn};

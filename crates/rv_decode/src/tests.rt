@@ -1,7 +1,7 @@
 // Words by LLVM's assembler (llvm-mc 14, --triple=riscv64 -mattr=+m), but for the two fences with every
 // other bit set, and words of no instruction.
 
-use crate::{Insn, decode, encode};
+use crate::{Decoder, Insn, decode, encode};
 
 // A word, the instruction's name, and its fields in the order of its variant.
 static ROWS: [(u32, &str, [i64; 3]); 115] = [
@@ -314,5 +314,17 @@ fn rows_decode_and_encode(rt: HostRuntime) {
 fn other_words_are_illegal(rt: HostRuntime) {
     for &(word, fault) in illegal() {
         assert!(rt; decode(word).is_none(), "{fault} {word:#x}");
+    }
+}
+
+// Each word at the address of the one before it, twice: it is decoded, and then it is kept.
+#[test]
+fn rows_decode_at_one_address(rt: HostRuntime) {
+    let mut decoder = Decoder::new();
+    for &(word, name, _) in rows() {
+        let insn = decoder.decode(0x1_0000, word).expect(&rt, "a row");
+        assert_eq!(rt; encode(*insn), word, "{name} {word:#x}");
+        let kept = decoder.decode(0x1_0000, word).expect(&rt, "a row");
+        assert_eq!(rt; encode(*kept), word, "{name} {word:#x}");
     }
 }

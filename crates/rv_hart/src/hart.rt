@@ -15,7 +15,7 @@ use fe_base::memory_map::KERNEL_START;
 use guest_memory::Bus;
 use rv_alu::{CsrOp, Effect, Size, act, loaded, put};
 use rv_csr::{Access, Csrs, Mode};
-use rv_decode::decode;
+use rv_decode::Decoder;
 use std::marker::Model;
 
 /// A hart with its 32 registers and its CSRs.
@@ -32,6 +32,7 @@ pub struct Hart {
     // the steps so far that began in user mode
     user_steps: u64,
     registers: [u64; 32],
+    decoder: Decoder,
 }
 
 impl Model for Hart {
@@ -77,6 +78,7 @@ impl Hart {
             run: Run::Held,
             user_steps: 0,
             registers: no_registers(),
+            decoder: Decoder::new(),
         }
     }
 
@@ -297,10 +299,10 @@ impl Hart {
             Ok(number) => number as u32,
             Err(byte) => return self.trap(Cause::FetchAccess, byte),
         };
-        let Some(insn) = decode(word) else {
+        let Some(insn) = self.decoder.decode(self.pc, word) else {
             return self.illegal(word);
         };
-        let effect = act(insn, self.pc, &self.registers);
+        let effect = act::<Hart>(insn, self.pc, &self.registers);
         let after = self.pc.wrapping_add(4);
         self.carry(bus, effect, word, after);
     }
