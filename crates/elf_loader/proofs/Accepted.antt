@@ -5,11 +5,13 @@ use Rattle.std.specs.Option.{option_or}
 use Rattle.std.specs.List.{list_any, position_from}
 use Rattle.std.proofs.lemmas.Bool.{eqb-true}
 use Rattle.std.proofs.lemmas.Bool.Decides.{nat_tests}
-use Rattle.elf_loader.specs.Ranges.{highest_end, is_in_range, ranges_meet}
+use Rattle.elf_loader.specs.Ranges.{is_in_range, ranges_meet}
+use Rattle.elf_loader.specs.Rules.{Rules, entry_alignment, highest_end, is_inside, lies_in, lowest_address, user_rules}
+use Rattle.elf_loader.specs.declared.area.Area.{Area}
 use Rattle.elf_loader.specs.Segment.{Segment, holds, meets, greatest_end}
 use Rattle.elf_loader.specs.ProgramHeader.{is_segment, is_dynamic, is_cut, is_outside, segments_meet, segment_holds, segment_of_header}
 use Rattle.elf_loader.specs.Faults.{first_fault, fault_when}
-use Rattle.elf_loader.specs.ElfFile.{fault_of, identification_rows, file_header_rows, program_header_rows, entry_of, headers_of, segments_of, image_of, first_meeting, IsFitSegment, IsFit}
+use Rattle.elf_loader.specs.ElfFile.{fault_by, fault_of, identification_rows, file_header_rows, program_header_rows, entry_of, headers_of, segments_of, image_of, first_meeting, IsFitSegment, IsFit}
 use Rattle.elf_loader.specs.declared.header.ProgramHeader.{ProgramHeader}
 use Rattle.elf_loader.specs.declared.fault.ElfFault.{ElfFault}
 use Rattle.elf_loader.specs.declared.fault.ElfFault.TheVariants.{Dynamic, Segment as CutSegment, Outside, Overlap, Entry}
@@ -25,36 +27,40 @@ or-assoc : {X : Type 0} (a b c : Option X) → option_or (option_or a b) c ≡ o
 or-assoc None b c = refl
 or-assoc (Some x) b c = refl
 
+-- the last rows of a file under these rules
+abbrev pub rows_of : Rules → List ℕ → List (Option ElfFault)
+rows_of rules file = program_header_rows rules.areas (rules.may_enter (entry_of file)) (length file) (entry_of file) (headers_of file)
+
 -- the rows of a file, in three parts
-pub fault_of-parts : (file : List ℕ) → fault_of file ≡ option_or (first_fault (identification_rows file))
-    (option_or (first_fault (file_header_rows file)) (first_fault (program_header_rows (length file) (entry_of file) (headers_of file))))
-unfolding fault_of
-fault_of-parts file =
-    let parts = program_header_rows (length file) (entry_of file) (headers_of file) in
+pub fault_of-parts : (rules : Rules) (file : List ℕ) → fault_by rules file ≡ option_or (first_fault (identification_rows file))
+    (option_or (first_fault (file_header_rows file)) (first_fault (rows_of rules file)))
+unfolding fault_by
+fault_of-parts rules file =
+    let parts = rows_of rules file in
     first_fault-append (identification_rows file ++ file_header_rows file) parts
     ∙ ap (λ o. option_or o (first_fault parts)) (first_fault-append (identification_rows file) (file_header_rows file))
     ∙ or-assoc (first_fault (identification_rows file)) (first_fault (file_header_rows file)) (first_fault parts)
 
 -- a fault of the first part is that of the file
-pub fault_of-identification : (file : List ℕ) (fault : ElfFault) → first_fault (identification_rows file) ≡ Some fault → fault_of file ≡ Some fault
-fault_of-identification file fault here =
-    fault_of-parts file ∙ ap (λ o. option_or o (option_or (first_fault (file_header_rows file)) (first_fault (program_header_rows (length file) (entry_of file) (headers_of file))))) here
+pub fault_of-identification : (rules : Rules) (file : List ℕ) (fault : ElfFault) → first_fault (identification_rows file) ≡ Some fault → fault_by rules file ≡ Some fault
+fault_of-identification rules file fault here =
+    fault_of-parts rules file ∙ ap (λ o. option_or o (option_or (first_fault (file_header_rows file)) (first_fault (rows_of rules file)))) here
 
 -- where the first part has none, a fault of the second
-pub fault_of-file_header : (file : List ℕ) (fault : ElfFault) → first_fault (identification_rows file) ≡ None
-    → first_fault (file_header_rows file) ≡ Some fault → fault_of file ≡ Some fault
-fault_of-file_header file fault before here =
-    fault_of-parts file
-    ∙ ap (λ o. option_or o (option_or (first_fault (file_header_rows file)) (first_fault (program_header_rows (length file) (entry_of file) (headers_of file))))) before
-    ∙ ap (λ o. option_or o (first_fault (program_header_rows (length file) (entry_of file) (headers_of file)))) here
+pub fault_of-file_header : (rules : Rules) (file : List ℕ) (fault : ElfFault) → first_fault (identification_rows file) ≡ None
+    → first_fault (file_header_rows file) ≡ Some fault → fault_by rules file ≡ Some fault
+fault_of-file_header rules file fault before here =
+    fault_of-parts rules file
+    ∙ ap (λ o. option_or o (option_or (first_fault (file_header_rows file)) (first_fault (rows_of rules file)))) before
+    ∙ ap (λ o. option_or o (first_fault (rows_of rules file))) here
 
 -- where the first two parts have none, what the third has
-pub fault_of-program_headers : (file : List ℕ) → first_fault (identification_rows file) ≡ None → first_fault (file_header_rows file) ≡ None
-    → fault_of file ≡ first_fault (program_header_rows (length file) (entry_of file) (headers_of file))
-fault_of-program_headers file before here =
-    fault_of-parts file
-    ∙ ap (λ o. option_or o (option_or (first_fault (file_header_rows file)) (first_fault (program_header_rows (length file) (entry_of file) (headers_of file))))) before
-    ∙ ap (λ o. option_or o (first_fault (program_header_rows (length file) (entry_of file) (headers_of file)))) here
+pub fault_of-program_headers : (rules : Rules) (file : List ℕ) → first_fault (identification_rows file) ≡ None → first_fault (file_header_rows file) ≡ None
+    → fault_by rules file ≡ first_fault (rows_of rules file)
+fault_of-program_headers rules file before here =
+    fault_of-parts rules file
+    ∙ ap (λ o. option_or o (option_or (first_fault (file_header_rows file)) (first_fault (rows_of rules file)))) before
+    ∙ ap (λ o. option_or o (first_fault (rows_of rules file))) here
 
 or-none : {X : Type 0} (a b : Option X) → option_or a b ≡ None → (a ≡ None) × (b ≡ None)
 or-none None b h = (refl, h)
@@ -82,39 +88,46 @@ either true false h = cc
 either false b h = cc
 
 -- no row on the program headers holds
-pub record IsSound (file_length entry : ℕ) (headers : List ProgramHeader) : Type 0 where
+pub record IsSound (areas : List Area) (may_enter : Bool) (file_length entry : ℕ) (headers : List ProgramHeader) : Type 0 where
   pub not_cut : position_from (is_cut file_length) 0 headers ≡ None
-  pub inside : position_from is_outside 0 headers ≡ None
+  pub inside : position_from (is_outside areas) 0 headers ≡ None
   pub apart : first_meeting 0 headers ≡ None
-  pub aligned : entry % 4 ≡ 0
+  pub enters : may_enter ≡ true
   pub entered : list_any (segment_holds entry) headers ≡ true
 
 abbrev overlap : ℕ × ℕ → ElfFault
 overlap pair = Overlap pair.0 pair.1
 
-sound : (file_length entry : ℕ) (headers : List ProgramHeader) → first_fault (program_header_rows file_length entry headers) ≡ None → IsSound file_length entry headers
+sound : (areas : List Area) (may_enter : Bool) (file_length entry : ℕ) (headers : List ProgramHeader)
+    → first_fault (program_header_rows areas may_enter file_length entry headers) ≡ None → IsSound areas may_enter file_length entry headers
 unfolding program_header_rows
-sound file_length entry headers h =
+sound areas may_enter file_length entry headers h =
     let parts = five-none
     (fault_when (list_any is_dynamic headers) Dynamic)
     (option_map CutSegment (position_from (is_cut file_length) 0 headers))
-    (option_map Outside (position_from is_outside 0 headers))
+    (option_map Outside (position_from (is_outside areas) 0 headers))
     (option_map overlap (first_meeting 0 headers))
-    (fault_when (not (entry % 4 == 0) || not (list_any (segment_holds entry) headers)) Entry) h in
-    let entered = either (entry % 4 == 0) (list_any (segment_holds entry) headers)
-    (when-none (not (entry % 4 == 0) || not (list_any (segment_holds entry) headers)) Entry parts.4) in
+    (fault_when (not may_enter || not (list_any (segment_holds entry) headers)) Entry) h in
+    let entered = either may_enter (list_any (segment_holds entry) headers)
+    (when-none (not may_enter || not (list_any (segment_holds entry) headers)) Entry parts.4) in
     record {
       not_cut = map-none CutSegment (position_from (is_cut file_length) 0 headers) parts.1;
-      inside = map-none Outside (position_from is_outside 0 headers) parts.2;
+      inside = map-none Outside (position_from (is_outside areas) 0 headers) parts.2;
       apart = map-none overlap (first_meeting 0 headers) parts.3;
-      aligned = eqb-true (entry % 4) 0 entered.0;
+      enters = entered.0;
       entered = entered.1;
     }
 
-pub accepted : (file : List ℕ) → fault_of file ≡ None → IsSound (length file) (entry_of file) (headers_of file)
-accepted file h =
-    let parts = or-none (first_fault (identification_rows file)) _ (sym (fault_of-parts file) ∙ h) in
-    sound (length file) (entry_of file) (headers_of file) (or-none (first_fault (file_header_rows file)) _ parts.1).1
+pub accepted : (rules : Rules) (file : List ℕ) → fault_by rules file ≡ None
+    → IsSound rules.areas (rules.may_enter (entry_of file)) (length file) (entry_of file) (headers_of file)
+accepted rules file h =
+    let parts = or-none (first_fault (identification_rows file)) _ (sym (fault_of-parts rules file) ∙ h) in
+    sound rules.areas (rules.may_enter (entry_of file)) (length file) (entry_of file) (headers_of file) (or-none (first_fault (file_header_rows file)) _ parts.1).1
+
+-- a range in the one area for programs that the kernel runs
+in_user_area : (start size : ℕ) → is_inside user_rules.areas start size ≡ true → (lowest_address ≤ start) × (start + size ≤ highest_end)
+unfolding user_rules
+in_user_area start size h = (grind (arith, nat_tests), grind (arith, nat_tests))
 
 All-cons : {X : Type 0} (P : X → Type 0) (x : X) (xs : List X) → P x → All P xs → All P (x ∷ xs)
 All-cons P x xs p ps zero d h = p
@@ -126,12 +139,17 @@ AllPairs-cons R x xs p ps zero (suc j) d less h = p j d (omega arith)
 AllPairs-cons R x xs p ps (suc i) zero d less h = absurd (omega arith)
 AllPairs-cons R x xs p ps (suc i) (suc j) d less h = ps i j d (omega arith) (omega arith)
 
-one_fits : (file : List ℕ) (h : ProgramHeader) → is_segment h ≡ true → is_cut (length file) h ≡ false → is_outside h ≡ false → IsFitSegment (segment_of_header file h)
-one_fits file h segment whole inside = record {
+not_outside : (segment inside : Bool) → segment ≡ true → (segment && not inside) ≡ false → inside ≡ true
+not_outside true true e h = refl
+not_outside true false e h = cc
+not_outside false inside e h = cc
+
+one_fits : (file : List ℕ) (h : ProgramHeader) → is_segment h ≡ true → is_cut (length file) h ≡ false → is_outside user_rules.areas h ≡ false → IsFitSegment (segment_of_header file h)
+one_fits file h segment whole inside = let area = in_user_area h.address h.memory_size (not_outside (is_segment h) (is_inside user_rules.areas h.address h.memory_size) segment inside) in record {
   not_empty = grind (arith, nat_tests);
   fits = let e = length-take h.file_size (drop h.offset file) in grind (arith, nat_tests);
-  above = grind (arith, nat_tests);
-  below = grind (arith, nat_tests);
+  above = area.0;
+  below = area.1;
 }
 
 and3 : (a b c : Bool) → a ≡ true → b ≡ true → (a && b && c) ≡ false → c ≡ false
@@ -161,13 +179,13 @@ all_front : (P : Segment → Type 0) (file : List ℕ) (h : ProgramHeader) (hs :
 all_front P file h hs true e here rest = subst (All P) (sym (loaded-here file h hs e)) (All-cons P (segment_of_header file h) (loaded file hs) (here e) rest)
 all_front P file h hs false e here rest = subst (All P) (sym (loaded-next file h hs e)) rest
 
-all_fit : (file : List ℕ) (k : ℕ) (hs : List ProgramHeader) → position_from (is_cut (length file)) k hs ≡ None → position_from is_outside k hs ≡ None
+all_fit : (file : List ℕ) (k : ℕ) (hs : List ProgramHeader) → position_from (is_cut (length file)) k hs ≡ None → position_from (is_outside user_rules.areas) k hs ≡ None
     → All IsFitSegment (loaded file hs)
 unfolding loaded
 all_fit file k [] whole inside = λ i d h. absurd (omega arith)
 all_fit file k (h ∷ hs) whole inside =
     let front = position-none (is_cut (length file)) k h hs whole in
-    let area = position-none is_outside k h hs inside in
+    let area = position-none (is_outside user_rules.areas) k h hs inside in
     all_front IsFitSegment file h hs (is_segment h) refl (λ segment. one_fits file h segment front.0 area.0) (all_fit file (k + 1) hs front.1 area.1)
 
 none_meets : (file : List ℕ) (a : ProgramHeader) → is_segment a ≡ true → (k : ℕ) (hs : List ProgramHeader) → position_from (segments_meet a) k hs ≡ None
@@ -208,15 +226,19 @@ any_holds file entry (h ∷ hs) = holds_front file entry h hs (is_segment h) ref
 -- the segments of a file with no fault suit
 pub segments_fit : (file : List ℕ) → fault_of file ≡ None → All IsFitSegment (segments_of file)
 unfolding loaded
-segments_fit file h = let s = accepted file h in all_fit file 0 (headers_of file) s.not_cut s.inside
+segments_fit file h = let s = accepted user_rules file h in all_fit file 0 (headers_of file) s.not_cut s.inside
+
+is_aligned : (entry : ℕ) → user_rules.may_enter entry ≡ true → entry % entry_alignment ≡ 0
+unfolding user_rules
+is_aligned entry h = eqb-true (entry % entry_alignment) 0 h
 
 -- the image of a file with no fault may be run
 pub IsFit-image_of : (file : List ℕ) → fault_of file ≡ None → IsFit (image_of file)
 unfolding loaded
-IsFit-image_of file h = let s = accepted file h in record {
+IsFit-image_of file h = let s = accepted user_rules file h in record {
   segments = segments_fit file h;
   apart = all_apart file 0 (headers_of file) s.apart;
-  aligned = s.aligned;
+  aligned = is_aligned (entry_of file) s.enters;
   entered = sym (any_holds file (entry_of file) (headers_of file)) ∙ s.entered;
   first_break = refl;
 }

@@ -1,10 +1,11 @@
 -- Which files are programs, which image such a file has, and which images may be run.
-use Rattle.std.specs.Prelude.{◌≡◌, ◌≤◌, ◌<◌, ℕ, ◌+◌, ◌*◌, ◌%◌, ◌==◌, ◌||◌, not, nat_lt, bit_and, true, false, List, [], ◌∷◌, ◌++◌, take, length, slice_index, map, filter, All, AllPairs, Option, Some, None, option_map}
+use Rattle.std.specs.Prelude.{◌≡◌, ◌≤◌, ◌<◌, ℕ, ◌+◌, ◌*◌, ◌%◌, ◌==◌, ◌||◌, not, nat_lt, bit_and, Bool, true, false, List, [], ◌∷◌, ◌++◌, take, length, slice_index, map, filter, All, AllPairs, Option, Some, None, option_map}
 use Rattle.std.specs.List.{list_any, position_from}
 use Rattle.std.specs.Option.{option_or}
 use Rattle.std.specs.Str.{bytes_eq}
 use Rattle.std.proofs.lemmas.Bool.{lt-ltb}
-use Rattle.elf_loader.specs.Ranges.{lowest_address, highest_end}
+use Rattle.elf_loader.specs.Rules.{Rules, entry_alignment, highest_end, lowest_address, user_rules}
+use Rattle.elf_loader.specs.declared.area.Area.{Area}
 use Rattle.elf_loader.specs.Segment.{Segment, end_of, holds, meets, first_break_of}
 use Rattle.elf_loader.specs.ProgramHeader.{number_at, headers_from, is_dynamic, is_segment, is_cut, is_outside, segments_meet, segment_holds, segment_of_header}
 use Rattle.elf_loader.specs.Faults.{fault_when, first_fault}
@@ -13,18 +14,18 @@ use Rattle.elf_loader.specs.declared.image.Image.{Image}
 use Rattle.elf_loader.specs.declared.fault.ElfFault.{ElfFault}
 use Rattle.elf_loader.specs.declared.fault.ElfFault.TheVariants.{TooLarge, Short, Magic, Class, Order, Version, Kind, Machine, Flags, HeaderSize, Headers, Dynamic, Segment as CutSegment, Outside, Overlap, Entry}
 
--- what a segment of an image that may be run is: not empty, no longer in the file than in memory, and inside the area for programs
+-- what a segment of an image that may be run is: not empty, no longer in the file than in memory, and inside the area for programs that the kernel runs
 pub record IsFitSegment (s : Segment) : Type 0 where
   pub not_empty : 0 < s.size
   pub fits : length s.bytes ≤ s.size
   pub above : lowest_address ≤ s.address
   pub below : end_of s ≤ highest_end
 
--- an image that may be run: its segments suit and none meet, the entry is a multiple of 4 in one of them, and the break lies behind them
+-- an image that may be run: its segments suit and none meet, the entry is aligned and in one of them, and the break lies behind them
 pub record IsFit (image : Image) : Type 0 where
   pub segments : All IsFitSegment image.segments
   pub apart : AllPairs (λ a b. meets a b ≡ false) image.segments
-  pub aligned : image.entry % 4 ≡ 0
+  pub aligned : image.entry % entry_alignment ≡ 0
   pub entered : list_any (holds image.entry) image.segments ≡ true
   pub first_break : image.first_break ≡ first_break_of image.segments
 
@@ -60,30 +61,42 @@ identification_rows file =
     ∷ fault_when (not (slice_index file 6 == 1) || not (number_at 4 20 file == 1)) Version
     ∷ []
 
--- what is wrong with e_type (ET_EXEC), e_machine (EM_RISCV), e_flags (no RVC, float ABI or RVE), e_ehsize and e_phentsize, or where the headers end (RISC-V ELF psABI, File Header)
+-- the bits of e_flags that ask for what is not there: RVC, the float ABI and RVE (RISC-V ELF psABI, File Header)
+abbrev pub refused_flags : ℕ
+refused_flags = 0xF
+
+-- what is wrong with e_type (ET_EXEC), e_machine (EM_RISCV), e_flags, e_ehsize and e_phentsize, or where the headers end (RISC-V ELF psABI, File Header)
 unfoldable pub file_header_rows : List ℕ → List (Option ElfFault)
 file_header_rows file =
     fault_when (not (number_at 2 16 file == 2)) Kind
     ∷ fault_when (not (number_at 2 18 file == 243)) Machine
-    ∷ fault_when (not (bit_and (number_at 4 48 file) 0xF == 0)) Flags
+    ∷ fault_when (not (bit_and (number_at 4 48 file) refused_flags == 0)) Flags
     ∷ fault_when (not (number_at 2 52 file == 64) || not (number_at 2 54 file == 56)) HeaderSize
     ∷ fault_when (nat_lt (length file) (headers_place file + 56 * headers_count file)) Headers
     ∷ []
 
--- what is wrong with the program headers and the entry of a file of this length
-unfoldable pub program_header_rows : ℕ → ℕ → List ProgramHeader → List (Option ElfFault)
-program_header_rows file_length entry headers =
+-- what is wrong with the program headers and the entry of a file of this length, whose segments have to stand in these areas, and which may begin at its entry or not
+unfoldable pub program_header_rows : List Area → Bool → ℕ → ℕ → List ProgramHeader → List (Option ElfFault)
+program_header_rows areas may_enter file_length entry headers =
     fault_when (list_any is_dynamic headers) Dynamic
     ∷ option_map CutSegment (position_from (is_cut file_length) 0 headers)
-    ∷ option_map Outside (position_from is_outside 0 headers)
+    ∷ option_map Outside (position_from (is_outside areas) 0 headers)
     ∷ option_map (λ pair. Overlap pair.0 pair.1) (first_meeting 0 headers)
-    ∷ fault_when (not (entry % 4 == 0) || not (list_any (segment_holds entry) headers)) Entry
+    ∷ fault_when (not may_enter || not (list_any (segment_holds entry) headers)) Entry
     ∷ []
 
--- why a file is refused: of all the rows the first fault; a file with none is accepted
-unfoldable pub fault_of : List ℕ → Option ElfFault
-fault_of file =
-    first_fault (identification_rows file ++ file_header_rows file ++ program_header_rows (length file) (entry_of file) (headers_of file))
+-- why a file is refused under these rules: of all the rows the first fault; a file with none is accepted
+unfoldable pub fault_by : Rules → List ℕ → Option ElfFault
+fault_by rules file =
+    first_fault (
+    identification_rows file
+    ++ file_header_rows file
+    ++ program_header_rows rules.areas (rules.may_enter (entry_of file)) (length file) (entry_of file) (headers_of file)
+    )
+
+-- why a file is no program that the kernel runs
+abbrev pub fault_of : List ℕ → Option ElfFault
+fault_of file = fault_by user_rules file
 
 -- what an accepted file puts into memory, in the order of its headers
 abbrev pub segments_of : List ℕ → List Segment
@@ -95,5 +108,5 @@ image_of file = record { entry = entry_of file; segments = segments_of file; fir
 
 -- a file of too many bytes is refused for that, whatever they are
 pub fault_of-too_large : (file : List ℕ) → 67108864 < length file → fault_of file ≡ Some TooLarge
-unfolding fault_of identification_rows
+unfolding fault_by identification_rows
 fault_of-too_large file h = rw (lt-ltb 67108864 (length file) h)

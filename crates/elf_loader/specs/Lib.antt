@@ -1,4 +1,5 @@
 pub mod Ranges
+pub mod Rules
 pub mod Segment
 pub mod Loaded
 pub mod ProgramHeader

@@ -1,7 +1,9 @@
 -- The program headers of a file: their fields, and which of them are faulty or are loaded.
-use Rattle.std.specs.Prelude.{ℕ, zero, suc, ◌+◌, ◌==◌, ◌&&◌, ◌||◌, not, nat_le, nat_lt, Bool, List, [], ◌∷◌, drop, take}
+use Rattle.std.specs.Prelude.{ℕ, zero, suc, ◌+◌, ◌==◌, ◌&&◌, ◌||◌, not, nat_lt, Bool, List, [], ◌∷◌, drop, take}
 use Rattle.byteorder.specs.Endian.{little_number}
-use Rattle.elf_loader.specs.Ranges.{lowest_address, highest_end, is_in_range, ranges_meet}
+use Rattle.elf_loader.specs.Ranges.{is_in_range, ranges_meet}
+use Rattle.elf_loader.specs.Rules.{is_inside}
+use Rattle.elf_loader.specs.declared.area.Area.{Area}
 use Rattle.elf_loader.specs.Segment.{Segment}
 use Rattle.elf_loader.specs.declared.header.ProgramHeader.{ProgramHeader}
 
@@ -40,9 +42,9 @@ is_segment h = is_loaded h && not (h.memory_size == 0)
 abbrev pub is_cut : ℕ → ProgramHeader → Bool
 is_cut file_length h = is_loaded h && (nat_lt h.memory_size h.file_size || nat_lt file_length (h.offset + h.file_size))
 
--- a segment that is not inside the area for programs
-abbrev pub is_outside : ProgramHeader → Bool
-is_outside h = is_segment h && not (nat_le lowest_address h.address && nat_le (h.address + h.memory_size) highest_end)
+-- a segment that lies in none of the areas
+abbrev pub is_outside : List Area → ProgramHeader → Bool
+is_outside areas h = is_segment h && not (is_inside areas h.address h.memory_size)
 
 -- two segments with an address in both
 abbrev pub segments_meet : ProgramHeader → ProgramHeader → Bool

@@ -1,13 +1,5 @@
--- Ranges of addresses, each given by its first address and its size, and where they may stand.
+-- Ranges of addresses, each given by its first address and its size.
 use Rattle.std.specs.Prelude.{ℕ, ◌+◌, ◌&&◌, nat_le, nat_lt, Bool}
-
--- the first address that a program's bytes may have
-abbrev pub lowest_address : ℕ
-lowest_address = 0x10000
-
--- the first address behind them all
-abbrev pub highest_end : ℕ
-highest_end = 0x1000000
 
 -- the address is one of the range
 abbrev pub is_in_range : ℕ → ℕ → ℕ → Bool

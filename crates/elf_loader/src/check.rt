@@ -7,6 +7,7 @@ ghost use Rattle.elf_loader.specs.ElfFile as spec;
 ghost use Rattle.elf_loader.specs.ElfFile.{fault_of, identification_rows, file_header_rows, program_header_rows, headers_place, headers_count};
 
 use crate::ElfFault;
+use crate::area::Area;
 use crate::header::{Headers, ProgramHeader, u16_at, u32_at, u64_at};
 
 const MAX_BYTES: usize = 67_108_864;
@@ -16,6 +17,15 @@ const FILE_HEADER_BYTES: usize = 64;
 const MAGIC: [u8; 4] = [0x7f, 0x45, 0x4c, 0x46];
 
 const RISCV: u16 = 243;
+
+// Where the segments of a program that the kernel runs may stand.
+const USER_AREAS: [Area; 1] = [Area {
+    start: 0x1_0000,
+    end: 0x100_0000,
+}];
+
+// Such a program begins at a multiple of this.
+const ENTRY_ALIGNMENT: u64 = 4;
 
 // RVC, the float ABI and RVE.
 const REFUSED_FLAGS: u32 = 0xf;
@@ -95,12 +105,12 @@ fn first_cut(headers: &Headers, file_length: usize) -> Option<u16>
     None
 }
 
-fn first_outside(headers: &Headers) -> Option<u16>
-    ensures { result ≡ position_from is_outside 0 headers.now }
+fn first_outside(headers: &Headers, areas: &[Area]) -> Option<u16>
+    ensures { result ≡ position_from (is_outside areas.now) 0 headers.now }
 {
     for i in 0..headers.len() {
         let header = headers.get(i);
-        if header.is_outside() {
+        if header.is_outside(areas) {
             return Some(i);
         }
     }
@@ -145,9 +155,16 @@ fn any_holds(headers: &Headers, address: u64) -> bool
     false
 }
 
+// The first fault of the program headers and of the entry, at which a program may begin or not.
 #[tactic(auto, unfolding(crate::specs::ElfFile::program_header_rows))]
-fn program_header_fault(headers: &Headers, file_length: usize, entry: u64) -> Option<ElfFault>
-    ensures { result ≡ first_fault (program_header_rows file_length entry headers.now) }
+fn program_header_fault(
+    headers: &Headers,
+    file_length: usize,
+    areas: &[Area],
+    entry: u64,
+    may_enter: bool,
+) -> Option<ElfFault>
+    ensures { result ≡ first_fault (program_header_rows areas.now may_enter file_length entry headers.now) }
 {
     if any_dynamic(headers) {
         return Some(ElfFault::Dynamic);
@@ -155,13 +172,13 @@ fn program_header_fault(headers: &Headers, file_length: usize, entry: u64) -> Op
     if let Some(i) = first_cut(headers, file_length) {
         return Some(ElfFault::Segment(i));
     }
-    if let Some(i) = first_outside(headers) {
+    if let Some(i) = first_outside(headers, areas) {
         return Some(ElfFault::Outside(i));
     }
     if let Some((i, j)) = first_meeting(headers) {
         return Some(ElfFault::Overlap(i, j));
     }
-    if entry % 4 != 0 || !any_holds(headers, entry) {
+    if !may_enter || !any_holds(headers, entry) {
         return Some(ElfFault::Entry);
     }
     None
@@ -188,5 +205,13 @@ pub fn first_fault_of(file: &[u8]) -> Option<ElfFault>
     if let Some(fault) = file_header_fault(file) {
         return Some(fault);
     }
-    program_header_fault(&headers_of(file), file.len(), u64_at(file, 24))
+    let entry = u64_at(file, 24);
+    let is_aligned = entry % ENTRY_ALIGNMENT == 0;
+    program_header_fault(
+        &headers_of(file),
+        file.len(),
+        &USER_AREAS,
+        entry,
+        is_aligned,
+    )
 }

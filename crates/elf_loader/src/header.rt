@@ -2,7 +2,9 @@
 ghost use Rattle.std.specs.Prelude.{◌≡◌, ◌<◌, ◌≤◌, ◌+◌, ◌*◌, length, Some, slice_get};
 ghost use Rattle.elf_loader.specs.ProgramHeader as spec;
 ghost use Rattle.elf_loader.specs.ProgramHeader.{number_at};
+ghost use Rattle.elf_loader.specs.Rules.{is_inside, lies_in};
 
+use crate::area::Area;
 use byteorder::{ByteOrder, LittleEndian};
 use std::marker::Model;
 
@@ -62,10 +64,6 @@ const DYNAMIC: u32 = 2;
 
 const INTERPRETER: u32 = 3;
 
-const LOWEST_ADDRESS: u64 = 0x1_0000;
-
-const HIGHEST_END: u128 = 0x100_0000;
-
 impl ProgramHeader {
     // The first address behind its memory.
     fn end(&self) -> u128
@@ -93,10 +91,23 @@ impl ProgramHeader {
         self.kind == LOADED && (self.file_size > self.memory_size || file_end > file_length as u128)
     }
 
-    pub fn is_outside(&self) -> bool
-        ensures { result ≡ spec.is_outside self.now }
+    // Whether its memory lies in the area.
+    fn lies_in(&self, area: &Area) -> bool
+        ensures { result ≡ lies_in self.now.address self.now.memory_size area.now }
     {
-        self.is_segment() && !(self.address >= LOWEST_ADDRESS && self.end() <= HIGHEST_END)
+        self.address >= area.start && self.end() <= u128::from(area.end)
+    }
+
+    fn is_inside(&self, areas: &[Area]) -> bool
+        ensures { result ≡ is_inside areas.now self.now.address self.now.memory_size }
+    {
+        areas.iter().any(|area| self.lies_in(area))
+    }
+
+    pub fn is_outside(&self, areas: &[Area]) -> bool
+        ensures { result ≡ spec.is_outside areas.now self.now }
+    {
+        self.is_segment() && !self.is_inside(areas)
     }
 
     pub fn meets(&self, other: &ProgramHeader) -> bool

@@ -4,6 +4,7 @@
 // bytes of the stack's first frame: the count of the arguments, the pointers to them and their texts.
 #![tactic(auto)]
 
+mod area;
 mod arguments;
 mod check;
 mod fault;

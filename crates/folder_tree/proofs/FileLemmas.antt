@@ -18,9 +18,10 @@ use Rattle.std.proofs.lemmas.Map.Text.{is_eq-slice_cmp}
 use Rattle.std.proofs.lemmas.Option.{same_Some, slice_get-get_or, slice_get_past}
 use Rattle.folder_tree.specs.Paths.{Parts, parts_cmp, first_part, path_text}
 use Rattle.folder_tree.specs.Tree.{Entry, directory, stored, Tree, empty_tree, Found, entry, nothing, no_parent, under_file, found_from, found_at, kind_found, kind_of, number_found, number_at, file_of, bytes_of, opens_of, IsHeld, IsWellFormed}
-use Rattle.folder_tree.specs.TreeOps.{opened, released, fewer_opens, is_named, with_file, IsFreeNumber}
+use Rattle.folder_tree.specs.TreeOps.{opened, released, fewer_opens, is_free, is_named, least_free, with_file}
+use Rattle.folder_tree.specs.FreeNumbers.{IsFreeNumber, IsFreeNumber-one, least_free-IsFreeNumber}
 use Rattle.folder_tree.specs.Laws.{same_number, same_path, is_named-name, name-is_named, opened-IsWellFormed, released-IsWellFormed, empty_tree-IsWellFormed, named-bytes, files_of-released, fewer_opens-more, file_of-number, number_at-named}
-use Rattle.folder_tree.specs.FilesFolder.{IsSound, is_free, is_free_name, byte_entries, name_entries, open_bytes, tree_of}
+use Rattle.folder_tree.specs.FilesFolder.{IsSound, is_free_name, byte_entries, name_entries, open_bytes, tree_of}
 use Rattle.folder_tree.specs.declared.folder.PathKind.{PathKind}
 use Rattle.folder_tree.specs.declared.folder.PathKind.TheVariants.{Directory, File, Free, NoParent, UnderFile}
 use Rattle.folder_tree.specs.declared.root_files.StoredFile.{StoredFile}
@@ -388,8 +389,11 @@ pushed t files new opens file name bytes is more named held free =
     ∙ ap (λ n. with_file t (n ∷ []) (length files) file.bytes.items) named
     ∙ ap (with_file t (name ∷ []) (length files)) held
 
-pub pushed-IsFreeNumber : (t : Tree) (files : List StoredFile) (opens : map.FinMap nat_cmp ℕ) → tree_of files opens ≡ t → IsFreeNumber t (length files)
+pushed-IsFreeNumber : (t : Tree) (files : List StoredFile) (opens : map.FinMap nat_cmp ℕ) → tree_of files opens ≡ t → IsFreeNumber t (length files)
 pushed-IsFreeNumber t files opens is = let P : Tree → Type 0 = λ u. IsFreeNumber u (length files) in subst P is (next-IsFreeNumber files opens)
+
+pub pushed-least_free : (t : Tree) (files : List StoredFile) (opens : map.FinMap nat_cmp ℕ) → tree_of files opens ≡ t → length files ≡ least_free t.bytes
+pushed-least_free t files opens is = IsFreeNumber-one t (length files) (least_free t.bytes) (pushed-IsFreeNumber t files opens is) (least_free-IsFreeNumber t)
 
 pub pushed-IsSound : (t : Tree) (files new : List StoredFile) (opens : map.FinMap nat_cmp ℕ) (file : StoredFile) (name bytes : List ℕ) → tree_of files opens ≡ t → new ≡ files ++ file ∷ []
     → file.name.items ≡ name → file.bytes.items ≡ bytes → map.get t.names (name ∷ []) ≡ None → length bytes < 2 ^ 64 → IsSound (tree_of files opens) → IsSound (tree_of new opens)

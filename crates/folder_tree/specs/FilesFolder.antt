@@ -6,20 +6,12 @@ use Rattle.std.specs.Coded.{Coded, code_by, coded×, coded_ℕ, coded_list}
 use Rattle.fe_base.specs.Memory.{counted, is_listed}
 use Rattle.folder_tree.specs.Paths.{Parts}
 use Rattle.folder_tree.specs.Tree.{Entry, stored, Tree, tree_code, IsWellFormed, kind_of, opens_of, bytes_of}
-use Rattle.folder_tree.specs.TreeOps.{After, is_named}
+use Rattle.folder_tree.specs.TreeOps.{After, is_free, is_named}
 use Rattle.folder_tree.specs.declared.folder.FolderStop.{FolderStop}
 use Rattle.folder_tree.specs.declared.folder.FolderStop.TheVariants.{Failed, NoMemory}
 use Rattle.folder_tree.specs.declared.folder.PathKind.{PathKind}
 use Rattle.folder_tree.specs.declared.folder.PathKind.TheVariants.{Directory, File, Free, NoParent, UnderFile}
 use Rattle.folder_tree.specs.declared.root_files.StoredFile.{StoredFile}
-
--- the kind of a path at which something can be put
-abbrev pub is_free : PathKind → Bool
-is_free Directory = false
-is_free File = false
-is_free Free = true
-is_free NoParent = false
-is_free UnderFile = false
 
 -- a path of one part at which nothing stands
 abbrev pub is_free_name : Tree → Parts → Bool

@@ -3,7 +3,7 @@ ghost use Rattle.std.specs.Prelude.{◌≡◌, ◌≤◌, ℕ, IfOk, IsTrue, OnE
 ghost use Rattle.std.specs.Option.{option_copied};
 ghost use Rattle.fe_base.specs.Memory.{NoneFrom, counted, is_listed};
 ghost use Rattle.folder_tree.specs.Tree.{IsWellFormed, Tree, empty_tree, file_of};
-ghost use Rattle.folder_tree.specs.TreeOps.{IsFreeNumber, kind_row, open_row, read_row, release_row, size_row, with_file};
+ghost use Rattle.folder_tree.specs.TreeOps.{kind_row, least_free, open_row, read_row, release_row, size_row, with_file};
 ghost use Rattle.folder_tree.specs.Answers.{Answers, HasCauses, StaysSteady, Suits, bytes_read};
 ghost use Rattle.folder_tree.specs.FilesFolder.{Called, HasCounts, is_free_name, refused};
 
@@ -67,8 +67,7 @@ impl FilesFolder {
     /// Adds a file that isn't open. This is none of the counted calls.
     pub fn put_file(&mut self, path: &Path, bytes: &[u8]) -> Result<(), AllocError>
         requires { IsTrue (is_free_name self.old.tree path.now) }
-        ensures ok { OnOk result ((number : ℕ) × IsFreeNumber self.old.tree number
-            × (self.new ≡ record self.old { tree = with_file self.old.tree path.now number bytes.now })) }
+        ensures ok { OnOk result (self.new ≡ record self.old { tree = with_file self.old.tree path.now (least_free self.old.tree.bytes) bytes.now }) }
         ensures err { OnErr result (self.new ≡ self.old) }
         ensures well_formed { IsWellFormed self.new.tree }
     {

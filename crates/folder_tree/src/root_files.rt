@@ -3,7 +3,7 @@ ghost use Rattle.std.specs.Prelude.{◌≡◌, ◌<◌, ◌∷◌, [], ℕ, OnEr
 ghost use Rattle.std.specs.Option.{option_copied, option_map};
 ghost use Rattle.std.specs.FinMap as map;
 ghost use Rattle.folder_tree.specs.Tree.{IsWellFormed, empty_tree, file_of, kind_of, number_at, opens_of, stored};
-ghost use Rattle.folder_tree.specs.TreeOps.{IsFreeNumber, is_named, opened, released, with_file};
+ghost use Rattle.folder_tree.specs.TreeOps.{is_named, least_free, opened, released, with_file};
 ghost use Rattle.folder_tree.specs.FilesFolder.{IsSound, open_bytes};
 
 use crate::counts::Counts;
@@ -139,7 +139,7 @@ impl RootFiles {
 
     pub fn add(&mut self, name: &[u8], bytes: &[u8]) -> Result<(), AllocError>
         requires { map.get self.old.names (name.now ∷ []) ≡ None }
-        ensures ok { OnOk result ((number : ℕ) × IsFreeNumber self.old number × (self.new ≡ with_file self.old (name.now ∷ []) number bytes.now)) }
+        ensures ok { OnOk result (self.new ≡ with_file self.old (name.now ∷ []) (least_free self.old.bytes) bytes.now) }
         ensures err { OnErr result (self.new ≡ self.old) }
         ensures well_formed { IsWellFormed self.new }
     {

@@ -60,6 +60,16 @@ fn a_text_has_4095_bytes(rt: HostRuntime) -> Result<(), Fail> {
     Ok(())
 }
 
+#[test]
+fn paths_stand_below_others(rt: HostRuntime) -> Result<(), Fail> {
+    let root = read_path(b"a/b")?;
+    let path = read_path(b"/c/d")?;
+    assert!(rt; path.below(&root).as_str() == "a/b/c/d");
+    assert!(rt; path.below(&Path::root()).as_str() == "c/d");
+    assert!(rt; Path::root().below(&root).text() == b"a/b".as_slice());
+    Ok(())
+}
+
 // A folder with the files `hi` and `ho`, whose call of this number fails.
 fn two_files(rt: &impl Abort, alloc: Global, failing: u64) -> Result<FilesFolder, Fail> {
     let mut folder = FilesFolder::new(alloc, &[failing])?;

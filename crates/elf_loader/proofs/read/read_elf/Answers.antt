@@ -3,6 +3,7 @@ use Rattle.std.specs.Prelude.{All}
 use Rattle.std.specs.List.{position_from}
 use Rattle.std.proofs.lemmas.Grind.{common_steps}
 use Rattle.elf_loader.specs.ProgramHeader.{is_cut}
+use Rattle.elf_loader.specs.Rules.{user_rules}
 use Rattle.elf_loader.specs.ElfFile.{fault_of, image_of, segments_of, IsFitSegment, IsFit}
 use Rattle.elf_loader.specs.declared.image.Image.{Image}
 use Rattle.elf_loader.proofs.Accepted.{accepted, segments_fit, greatest_end-le, IsFit-image_of}
@@ -11,7 +12,7 @@ use Rattle.elf_loader.proofs.read.read_elf.Goals as goal
 pub load-requires : goal.load-requires
 load-requires c =
     let none : fault_of c.args.file.now ≡ None = first_of (search rules, grind (arith, common_steps)) in
-    subst (λ hs. position_from (is_cut (length c.args.file.now)) 0 hs ≡ None) (sym c.headers_of.ensures) ((accepted c.args.file.now none).not_cut)
+    subst (λ hs. position_from (is_cut (length c.args.file.now)) 0 hs ≡ None) (sym c.headers_of.ensures) ((accepted user_rules c.args.file.now none).not_cut)
 
 pub greatest_end-requires : goal.greatest_end-requires
 greatest_end-requires c =
