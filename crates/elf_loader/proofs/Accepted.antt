@@ -6,7 +6,9 @@ use Rattle.std.specs.List.{list_any, position_from}
 use Rattle.std.proofs.lemmas.Bool.{eqb-true}
 use Rattle.std.proofs.lemmas.Bool.Decides.{nat_tests}
 use Rattle.elf_loader.specs.Ranges.{is_in_range, ranges_meet}
-use Rattle.elf_loader.specs.Rules.{Rules, entry_alignment, highest_end, is_inside, lies_in, lowest_address, user_rules}
+use Rattle.elf_loader.specs.Rules.{Rules, entry_alignment, is_inside, lies_in, user_rules}
+use Rattle.fe_base.specs.Limits.{stack_top}
+use Rattle.fe_base.specs.MemoryMap.{user_start}
 use Rattle.elf_loader.specs.declared.area.Area.{Area}
 use Rattle.elf_loader.specs.Segment.{Segment, holds, meets, greatest_end}
 use Rattle.elf_loader.specs.ProgramHeader.{is_segment, is_dynamic, is_cut, is_outside, segments_meet, segment_holds, segment_of_header}
@@ -125,7 +127,7 @@ accepted rules file h =
     sound rules.areas (rules.may_enter (entry_of file)) (length file) (entry_of file) (headers_of file) (or-none (first_fault (file_header_rows file)) _ parts.1).1
 
 -- a range in the one area for programs that the kernel runs
-in_user_area : (start size : ℕ) → is_inside user_rules.areas start size ≡ true → (lowest_address ≤ start) × (start + size ≤ highest_end)
+in_user_area : (start size : ℕ) → is_inside user_rules.areas start size ≡ true → (user_start ≤ start) × (start + size ≤ stack_top)
 unfolding user_rules
 in_user_area start size h = (grind (arith, nat_tests), grind (arith, nat_tests))
 
@@ -248,7 +250,7 @@ pub bytes_inside : (n : ℕ) (h : ProgramHeader) → is_segment h ≡ true → i
 bytes_inside n h segment whole = grind (arith, nat_tests)
 
 -- no end of a segment that suits is above the highest
-pub greatest_end-le : (ss : List Segment) → All IsFitSegment ss → greatest_end ss ≤ highest_end
+pub greatest_end-le : (ss : List Segment) → All IsFitSegment ss → greatest_end ss ≤ stack_top
 greatest_end-le [] fit = omega arith
 greatest_end-le (s ∷ ss) fit =
     let first = fit 0 s (omega arith) in

@@ -4,7 +4,9 @@ use Rattle.std.specs.List.{list_any, position_from}
 use Rattle.std.specs.Option.{option_or}
 use Rattle.std.specs.Str.{bytes_eq}
 use Rattle.std.proofs.lemmas.Bool.{lt-ltb}
-use Rattle.elf_loader.specs.Rules.{Rules, entry_alignment, highest_end, lowest_address, user_rules}
+use Rattle.elf_loader.specs.Rules.{Rules, entry_alignment, user_rules}
+use Rattle.fe_base.specs.Limits.{elf_file_limit, stack_top}
+use Rattle.fe_base.specs.MemoryMap.{user_start}
 use Rattle.elf_loader.specs.declared.area.Area.{Area}
 use Rattle.elf_loader.specs.Segment.{Segment, end_of, holds, meets, first_break_of}
 use Rattle.elf_loader.specs.ProgramHeader.{number_at, headers_from, is_dynamic, is_segment, is_cut, is_outside, segments_meet, segment_holds, segment_of_header}
@@ -18,8 +20,8 @@ use Rattle.elf_loader.specs.declared.fault.ElfFault.TheVariants.{TooLarge, Short
 pub record IsFitSegment (s : Segment) : Type 0 where
   pub not_empty : 0 < s.size
   pub fits : length s.bytes ≤ s.size
-  pub above : lowest_address ≤ s.address
-  pub below : end_of s ≤ highest_end
+  pub above : user_start ≤ s.address
+  pub below : end_of s ≤ stack_top
 
 -- an image that may be run: its segments suit and none meet, the entry is aligned and in one of them, and the break lies behind them
 pub record IsFit (image : Image) : Type 0 where
@@ -53,7 +55,7 @@ first_meeting i (h ∷ hs) = option_or (option_map (λ j. (i, j)) (position_from
 -- what is wrong with the length and with e_ident: the magic number, ELFCLASS64, ELFDATA2LSB, EV_CURRENT (System V gABI, chapter 4, ELF Identification)
 unfoldable pub identification_rows : List ℕ → List (Option ElfFault)
 identification_rows file =
-    fault_when (nat_lt 67108864 (length file)) TooLarge
+    fault_when (nat_lt elf_file_limit (length file)) TooLarge
     ∷ fault_when (nat_lt (length file) 64) Short
     ∷ fault_when (not (bytes_eq (take 4 file) (0x7f ∷ 0x45 ∷ 0x4c ∷ 0x46 ∷ []))) Magic
     ∷ fault_when (not (slice_index file 4 == 2)) Class
@@ -107,6 +109,6 @@ abbrev pub image_of : List ℕ → Image
 image_of file = record { entry = entry_of file; segments = segments_of file; first_break = first_break_of (segments_of file) }
 
 -- a file of too many bytes is refused for that, whatever they are
-pub fault_of-too_large : (file : List ℕ) → 67108864 < length file → fault_of file ≡ Some TooLarge
+pub fault_of-too_large : (file : List ℕ) → elf_file_limit < length file → fault_of file ≡ Some TooLarge
 unfolding fault_by identification_rows
-fault_of-too_large file h = rw (lt-ltb 67108864 (length file) h)
+fault_of-too_large file h = rw (lt-ltb elf_file_limit (length file) h)

@@ -1,6 +1,8 @@
 -- What differs from one kind of program to another: where its segments may stand, and where it may begin.
 use Rattle.std.specs.Prelude.{ℕ, ◌+◌, ◌%◌, ◌==◌, ◌&&◌, nat_le, Bool, List, [], ◌∷◌}
 use Rattle.std.specs.List.{list_any}
+use Rattle.fe_base.specs.Limits.{stack_top}
+use Rattle.fe_base.specs.MemoryMap.{user_start}
 use Rattle.elf_loader.specs.declared.area.Area.{Area}
 
 -- the areas in one of which each segment has to stand whole, and the addresses at which a program may begin
@@ -16,21 +18,13 @@ lies_in start size area = nat_le area.start start && nat_le (start + size) area.
 abbrev pub is_inside : List Area → ℕ → ℕ → Bool
 is_inside areas start size = list_any (lies_in start size) areas
 
--- the first address that the bytes of a program for the kernel may have
-abbrev pub lowest_address : ℕ
-lowest_address = 0x10000
-
--- the first address behind them all
-abbrev pub highest_end : ℕ
-highest_end = 0x1000000
-
 -- a program for the kernel begins at a multiple of this (Unprivileged ISA, 1.5: IALIGN is 32 bits)
 abbrev pub entry_alignment : ℕ
 entry_alignment = 4
 
--- the rules for a program that the kernel runs
+-- the rules for a program that the kernel runs: it stands in the user area, below the stack
 unfoldable pub user_rules : Rules
 user_rules = record {
-  areas = record { start = lowest_address; end = highest_end } ∷ [];
+  areas = record { start = user_start; end = stack_top } ∷ [];
   may_enter = λ entry. entry % entry_alignment == 0;
 }

@@ -9,8 +9,8 @@ ghost use Rattle.elf_loader.specs.ElfFile.{fault_of, identification_rows, file_h
 use crate::ElfFault;
 use crate::area::Area;
 use crate::header::{Headers, ProgramHeader, u16_at, u32_at, u64_at};
-
-const MAX_BYTES: usize = 67_108_864;
+use fe_base::limits::{ELF_FILE_LIMIT, STACK_TOP};
+use fe_base::memory_map::USER_START;
 
 const FILE_HEADER_BYTES: usize = 64;
 
@@ -20,8 +20,8 @@ const RISCV: u16 = 243;
 
 // Where the segments of a program that the kernel runs may stand.
 const USER_AREAS: [Area; 1] = [Area {
-    start: 0x1_0000,
-    end: 0x100_0000,
+    start: USER_START,
+    end: STACK_TOP,
 }];
 
 // Such a program begins at a multiple of this.
@@ -35,7 +35,7 @@ fn identification_fault(file: &[u8]) -> Option<ElfFault>
     ensures fault { result ≡ first_fault (identification_rows file.now) }
     ensures long_enough { IsNone result → 64 ≤ length file.now }
 {
-    if file.len() > MAX_BYTES {
+    if file.len() as u64 > ELF_FILE_LIMIT {
         return Some(ElfFault::TooLarge);
     }
     if file.len() < FILE_HEADER_BYTES {

@@ -55,7 +55,7 @@ part_refl : (part : List ℕ) → eq_by_cmp (slice_cmp nat_cmp) part part ≡ tr
 part_refl part = (eq_by_cmp_equiv nat_list_cmp_total).refl part
 
 -- longer paths are below
-below-longer : (path : Parts) (part : List ℕ) (rest : Parts) → is_below path (path ++ part ∷ rest) ≡ true
+pub below-longer : (path : Parts) (part : List ℕ) (rest : Parts) → is_below path (path ++ part ∷ rest) ≡ true
 below-longer [] part rest = refl
 below-longer (p ∷ path) part rest = ap (λ b. b && is_below path (path ++ part ∷ rest)) (part_refl p) ∙ below-longer path part rest
 
@@ -67,7 +67,7 @@ below-more : (path b : Parts) (part : List ℕ) → is_below path (path ++ (b ++
 below-more path [] part = below-longer path part []
 below-more path (x ∷ b) part = below-longer path x (b ++ part ∷ [])
 
-filled-name : (t : Tree) (path q : Parts) (e : Entry) → map.get t.names q ≡ Some e → is_below path q ≡ true → is_filled t path ≡ true
+pub filled-name : (t : Tree) (path q : Parts) (e : Entry) → map.get t.names q ≡ Some e → is_below path q ≡ true → is_filled t path ≡ true
 filled-name t path q e is below = any_at (is_below path) q (map.keys t.names) below (sym (contains_key-keys t.names q) ∙ is_some_of (map.get t.names q) e is)
 
 not_both : (b : Bool) → b ≡ true → b ≡ false → ⊥

@@ -9,7 +9,7 @@ use Rattle.std.specs.Ordering.{nat_cmp, eq_by_cmp}
 use Rattle.std.proofs.lemmas.List.{length-replicate}
 use Rattle.std.proofs.lemmas.Bool.{cases_Bool, ltb-true}
 use Rattle.folder_tree.specs.Paths.{Parts, parts_cmp}
-use Rattle.folder_tree.specs.Tree.{Entry, directory, stored, Tree, Found, entry, nothing, no_parent, under_file, found_from, found_at, kind_found, kind_of, opens_of, bytes_of, IsHeld, IsWellFormed}
+use Rattle.folder_tree.specs.Tree.{Entry, directory, stored, Tree, Found, entry, nothing, no_parent, under_file, found_from, found_at, kind_found, kind_of, opens_of, bytes_of, HasParents, IsHeld, IsWellFormed}
 use Rattle.folder_tree.specs.TreeOps.{After, holding, is_free, sized, written, is_writable, write_row, set_size_row, if_open, named, with_file, created, create_row, make_dir_row, opened, least_free}
 use Rattle.folder_tree.specs.Laws.{Keeps, same_number, same_path, found_at-names, opened-IsWellFormed}
 use Rattle.folder_tree.specs.FreeNumbers.{IsFreeNumber, least_free-IsFreeNumber}
@@ -167,11 +167,6 @@ pub name-stays : (t : Tree) (path : Parts) (new : Entry) (p : Parts) (e : Entry)
 name-stays t path new p e free is =
     get-insert (lists_total nat_list_cmp_total) t.names path new p
     ∙ cond_stays (eq_by_cmp parts_cmp p path) new (map.get t.names p) e (λ same. ap (map.get t.names) (same_path p path same) ∙ free-name t path free) is
-
--- the root has no name, and each name's parent is a directory
-pub record HasParents (t : Tree) : Type 0 where
-  pub root : map.get t.names [] ≡ None
-  pub parents : (above : Parts) (part : List ℕ) → IsSome (map.get t.names (above ++ part ∷ [])) → found_at t above ≡ entry directory
 
 pub named-HasParents : (t : Tree) (path : Parts) (new : Entry) → IsWellFormed t → kind_of t path ≡ Free → HasParents (named t path new)
 named-HasParents t path new well free =

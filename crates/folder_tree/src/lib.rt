@@ -15,4 +15,4 @@ mod tests;
 
 pub use files::FilesFolder;
 pub use folder::{Folder, FolderStop, PathKind};
-pub use path::{MAX_PATH_BYTES, Path, read_path};
+pub use path::{Path, read_path};
