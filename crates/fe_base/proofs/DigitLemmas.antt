@@ -1,5 +1,5 @@
 -- Hexadecimal digits, one after the other.
-use Rattle.std.proofs.Common.{◌≡◌, ℕ, zero, suc, ◌-◌, ◌/◌, ◌%◌, ◌<◌, ◌++◌, List, [], ◌∷◌, false, refl, ap, arith}
+use Rattle.std.proofs.Common.{◌≡◌, ℕ, zero, suc, ◌-◌, ◌/◌, ◌%◌, ◌<◌, ◌++◌, [], ◌∷◌, false, refl, ap, arith}
 use Rattle.std.specs.Fmt.{digit_glyph}
 use Rattle.fe_base.specs.Digits.{hexadecimal}
 
