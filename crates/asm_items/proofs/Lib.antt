@@ -1,0 +1,5 @@
+pub mod FirstLabels
+pub mod Offsets
+pub mod Progress
+pub mod Spots
+pub mod Totals

@@ -1,0 +1,4 @@
+pub mod Names
+pub mod ItemMeaning
+pub mod LabelMap
+pub mod Printable
