@@ -1,9 +1,9 @@
 -- Offsets between places that are counted in words.
-use Rattle.std.proofs.Common.{◌≡◌, ℕ, ◌+◌, ◌*◌, ◌-◌, ◌≤◌, ◌<◌, ◌⊎◌, inl, inr, ℤ, pos, negsuc, ◌-ℤ◌, ◌≤ℤ◌, ◌<ℤ◌, true, false, subst, sym, arith}
+use Rattle.std.proofs.Common.{◌≡◌, ℕ, ◌*◌, ◌-◌, inl, inr, ℤ, pos, negsuc, ◌≤ℤ◌, ◌<ℤ◌, true, false, subst, sym, arith}
 use Rattle.std.proofs.lemmas.Int.{ints}
 use Rattle.std.proofs.lemmas.Bool.{cases_lt}
 use Rattle.rv_decode.specs.Fits.{IsEven}
-use Rattle.asm_items.specs.ItemMeaning.{address, offset, is_within}
+use Rattle.asm_items.specs.ItemMeaning.{offset, is_within}
 
 -- it is a multiple of four, whatever the base
 pub offset_even : (base place target : ℕ) → IsEven (offset base place target)
