@@ -3,7 +3,7 @@ use Rattle.std.proofs.Common.{◌≡◌, ◌∙◌, ℕ, zero, suc, ◌+◌, ◌
 use Rattle.std.proofs.Math.ListN.{drop_of_length-le}
 use Rattle.std.proofs.lemmas.List.{drop-drop}
 use Rattle.std.specs.Prelude.{slice_get, bytes_eq, codes, ok_or}
-use Rattle.spike_front.specs.Words.{command_of, greatest_steps, is_option, is_unbuilt_name, number_within, option_fault, option_value, plain_file, plain_words, steps_value, with_value}
+use Rattle.spike_front.specs.Words.{command_of, greatest_limit, is_option, is_unbuilt_name, number_within, option_fault, option_value, plain_file, plain_words, limit_value, with_value}
 use Rattle.spike_front.specs.declared.words.UsageKind.TheVariants.{UnknownCommand, BadNumber}
 use Rattle.spike_front.specs.declared.words.WordFault.{WordFault}
 use Rattle.spike_front.specs.declared.words.WordFault.TheVariants.{Usage, NotBuilt}
@@ -28,82 +28,82 @@ copied words copy new all i word here grown known =
     ∙ known
 
 -- a value that is a number, and one that is none
-pub value_given : (words : List (List ℕ)) (at n : ℕ) (word : List ℕ) → slice_get words at ≡ Some word → number_within 1 greatest_steps word ≡ Some n
-    → steps_value at (drop at words) ≡ Ok n
-value_given words at n word here number = ap (steps_value at) (drop-word words at word here) ∙ ap (λ (o : Option ℕ). ok_or o (Usage BadNumber at)) number
+pub value_given : (words : List (List ℕ)) (at n : ℕ) (word : List ℕ) → slice_get words at ≡ Some word → number_within 1 greatest_limit word ≡ Some n
+    → limit_value at (drop at words) ≡ Ok n
+value_given words at n word here number = ap (limit_value at) (drop-word words at word here) ∙ ap (λ (o : Option ℕ). ok_or o (Usage BadNumber at)) number
 
-pub value_refused : (words : List (List ℕ)) (at : ℕ) (word : List ℕ) → slice_get words at ≡ Some word → number_within 1 greatest_steps word ≡ None
-    → steps_value at (drop at words) ≡ Err (Usage BadNumber at)
-value_refused words at word here number = ap (steps_value at) (drop-word words at word here) ∙ ap (λ (o : Option ℕ). ok_or o (Usage BadNumber at)) number
+pub value_refused : (words : List (List ℕ)) (at : ℕ) (word : List ℕ) → slice_get words at ≡ Some word → number_within 1 greatest_limit word ≡ None
+    → limit_value at (drop at words) ≡ Err (Usage BadNumber at)
+value_refused words at word here number = ap (limit_value at) (drop-word words at word here) ∙ ap (λ (o : Option ℕ). ok_or o (Usage BadNumber at)) number
 
-first-file : (steps : Option ℕ) (at : ℕ) (word : List ℕ) (words : List (List ℕ)) → is_option word ≡ false
-    → plain_words steps at (word ∷ words) ≡ plain_file steps at (word ∷ words)
-first-file steps at word [] plain = if_true (not (is_option word)) _ _ (ap not plain)
-first-file steps at word (next ∷ words) plain = if_true (not (is_option word)) _ _ (ap not plain)
+first-file : (limit : Option ℕ) (at : ℕ) (word : List ℕ) (words : List (List ℕ)) → is_option word ≡ false
+    → plain_words limit at (word ∷ words) ≡ plain_file limit at (word ∷ words)
+first-file limit at word [] plain = if_true (not (is_option word)) _ _ (ap not plain)
+first-file limit at word (next ∷ words) plain = if_true (not (is_option word)) _ _ (ap not plain)
 
-first-dashes : (steps : Option ℕ) (at : ℕ) (word : List ℕ) (words : List (List ℕ)) → is_option word ≡ true → bytes_eq word (codes "--") ≡ true
-    → plain_words steps at (word ∷ words) ≡ plain_file steps (at + 1) words
-first-dashes steps at word [] dash both = if_false (not (is_option word)) _ _ (ap not dash) ∙ if_true (bytes_eq word (codes "--")) _ _ both
-first-dashes steps at word (next ∷ words) dash both = if_false (not (is_option word)) _ _ (ap not dash) ∙ if_true (bytes_eq word (codes "--")) _ _ both
+first-dashes : (limit : Option ℕ) (at : ℕ) (word : List ℕ) (words : List (List ℕ)) → is_option word ≡ true → bytes_eq word (codes "--") ≡ true
+    → plain_words limit at (word ∷ words) ≡ plain_file limit (at + 1) words
+first-dashes limit at word [] dash both = if_false (not (is_option word)) _ _ (ap not dash) ∙ if_true (bytes_eq word (codes "--")) _ _ both
+first-dashes limit at word (next ∷ words) dash both = if_false (not (is_option word)) _ _ (ap not dash) ∙ if_true (bytes_eq word (codes "--")) _ _ both
 
-first-option : (steps : Option ℕ) (at : ℕ) (word : List ℕ) (words : List (List ℕ)) → is_option word ≡ true → bytes_eq word (codes "--") ≡ false
-    → plain_words steps at (word ∷ words) ≡ with_value (option_value (option_fault steps at word) at words) (λ value. plain_words (Some value) (at + 2) (drop 1 words))
-first-option steps at word [] dash more = if_false (not (is_option word)) _ _ (ap not dash) ∙ if_false (bytes_eq word (codes "--")) _ _ more
-first-option steps at word (next ∷ words) dash more = if_false (not (is_option word)) _ _ (ap not dash) ∙ if_false (bytes_eq word (codes "--")) _ _ more
+first-option : (limit : Option ℕ) (at : ℕ) (word : List ℕ) (words : List (List ℕ)) → is_option word ≡ true → bytes_eq word (codes "--") ≡ false
+    → plain_words limit at (word ∷ words) ≡ with_value (option_value (option_fault limit at word) at words) (λ value. plain_words (Some value) (at + 2) (drop 1 words))
+first-option limit at word [] dash more = if_false (not (is_option word)) _ _ (ap not dash) ∙ if_false (bytes_eq word (codes "--")) _ _ more
+first-option limit at word (next ∷ words) dash more = if_false (not (is_option word)) _ _ (ap not dash) ∙ if_false (bytes_eq word (codes "--")) _ _ more
 
 -- no word is left: FILE is missing
-pub words-none : (steps : Option ℕ) (at : ℕ) (words : List (List ℕ)) → length words ≤ at → plain_words steps at (drop at words) ≡ plain_file steps at (drop at words)
-words-none steps at words past =
+pub words-none : (limit : Option ℕ) (at : ℕ) (words : List (List ℕ)) → length words ≤ at → plain_words limit at (drop at words) ≡ plain_file limit at (drop at words)
+words-none limit at words past =
     let none : drop at words ≡ [] = drop_of_length-le words past in
-    ap (plain_words steps at) none ∙ sym (ap (plain_file steps at) none)
+    ap (plain_words limit at) none ∙ sym (ap (plain_file limit at) none)
 
 -- the next word is FILE
-pub words-file : (steps : Option ℕ) (at : ℕ) (words : List (List ℕ)) (word : List ℕ) → slice_get words at ≡ Some word → is_option word ≡ false
-    → plain_words steps at (drop at words) ≡ plain_file steps at (drop at words)
-words-file steps at words word here plain =
+pub words-file : (limit : Option ℕ) (at : ℕ) (words : List (List ℕ)) (word : List ℕ) → slice_get words at ≡ Some word → is_option word ≡ false
+    → plain_words limit at (drop at words) ≡ plain_file limit at (drop at words)
+words-file limit at words word here plain =
     let next : drop at words ≡ word ∷ drop (at + 1) words = drop-word words at word here in
-    ap (plain_words steps at) next ∙ first-file steps at word (drop (at + 1) words) plain ∙ sym (ap (plain_file steps at) next)
+    ap (plain_words limit at) next ∙ first-file limit at word (drop (at + 1) words) plain ∙ sym (ap (plain_file limit at) next)
 
 -- the next word ends the options
-pub words-dashes : (steps : Option ℕ) (at : ℕ) (words : List (List ℕ)) (word : List ℕ) → slice_get words at ≡ Some word → is_option word ≡ true → bytes_eq word (codes "--") ≡ true
-    → plain_words steps at (drop at words) ≡ plain_file steps (at + 1) (drop (at + 1) words)
-words-dashes steps at words word here dash both = ap (plain_words steps at) (drop-word words at word here) ∙ first-dashes steps at word (drop (at + 1) words) dash both
+pub words-dashes : (limit : Option ℕ) (at : ℕ) (words : List (List ℕ)) (word : List ℕ) → slice_get words at ≡ Some word → is_option word ≡ true → bytes_eq word (codes "--") ≡ true
+    → plain_words limit at (drop at words) ≡ plain_file limit (at + 1) (drop (at + 1) words)
+words-dashes limit at words word here dash both = ap (plain_words limit at) (drop-word words at word here) ∙ first-dashes limit at word (drop (at + 1) words) dash both
 
 -- the next word is an option: it is refused, or its value is, or the words behind its value are read
-words-option : (steps : Option ℕ) (at : ℕ) (words : List (List ℕ)) (word : List ℕ) → slice_get words at ≡ Some word → is_option word ≡ true → bytes_eq word (codes "--") ≡ false
-    → plain_words steps at (drop at words) ≡ with_value (option_value (option_fault steps at word) at (drop (at + 1) words)) (λ value. plain_words (Some value) (at + 2) (drop 1 (drop (at + 1) words)))
-words-option steps at words word here dash more = ap (plain_words steps at) (drop-word words at word here) ∙ first-option steps at word (drop (at + 1) words) dash more
+words-option : (limit : Option ℕ) (at : ℕ) (words : List (List ℕ)) (word : List ℕ) → slice_get words at ≡ Some word → is_option word ≡ true → bytes_eq word (codes "--") ≡ false
+    → plain_words limit at (drop at words) ≡ with_value (option_value (option_fault limit at word) at (drop (at + 1) words)) (λ value. plain_words (Some value) (at + 2) (drop 1 (drop (at + 1) words)))
+words-option limit at words word here dash more = ap (plain_words limit at) (drop-word words at word here) ∙ first-option limit at word (drop (at + 1) words) dash more
 
-pub words-refused : (steps : Option ℕ) (at : ℕ) (words : List (List ℕ)) (word : List ℕ) (fault : WordFault) → slice_get words at ≡ Some word → is_option word ≡ true → bytes_eq word (codes "--") ≡ false
-    → option_fault steps at word ≡ Some fault
-    → plain_words steps at (drop at words) ≡ Err fault
-words-refused steps at words word fault here dash more refused =
-    words-option steps at words word here dash more
+pub words-refused : (limit : Option ℕ) (at : ℕ) (words : List (List ℕ)) (word : List ℕ) (fault : WordFault) → slice_get words at ≡ Some word → is_option word ≡ true → bytes_eq word (codes "--") ≡ false
+    → option_fault limit at word ≡ Some fault
+    → plain_words limit at (drop at words) ≡ Err fault
+words-refused limit at words word fault here dash more refused =
+    words-option limit at words word here dash more
     ∙ ap (λ (o : Option WordFault). with_value (option_value o at (drop (at + 1) words)) (λ value. plain_words (Some value) (at + 2) (drop 1 (drop (at + 1) words)))) refused
 
-words-valued : (steps : Option ℕ) (at : ℕ) (words : List (List ℕ)) (word : List ℕ) (value : Result ℕ WordFault) → slice_get words at ≡ Some word → is_option word ≡ true → bytes_eq word (codes "--") ≡ false
-    → option_fault steps at word ≡ None → steps_value (at + 1) (drop (at + 1) words) ≡ value
-    → plain_words steps at (drop at words) ≡ with_value value (λ n. plain_words (Some n) (at + 2) (drop 1 (drop (at + 1) words)))
-words-valued steps at words word value here dash more known gives =
-    words-option steps at words word here dash more
+words-valued : (limit : Option ℕ) (at : ℕ) (words : List (List ℕ)) (word : List ℕ) (value : Result ℕ WordFault) → slice_get words at ≡ Some word → is_option word ≡ true → bytes_eq word (codes "--") ≡ false
+    → option_fault limit at word ≡ None → limit_value (at + 1) (drop (at + 1) words) ≡ value
+    → plain_words limit at (drop at words) ≡ with_value value (λ n. plain_words (Some n) (at + 2) (drop 1 (drop (at + 1) words)))
+words-valued limit at words word value here dash more known gives =
+    words-option limit at words word here dash more
     ∙ ap (λ (o : Option WordFault). with_value (option_value o at (drop (at + 1) words)) (λ n. plain_words (Some n) (at + 2) (drop 1 (drop (at + 1) words)))) known
     ∙ ap (λ (r : Result ℕ WordFault). with_value r (λ n. plain_words (Some n) (at + 2) (drop 1 (drop (at + 1) words)))) gives
 
-pub words-bad_value : (steps : Option ℕ) (at : ℕ) (words : List (List ℕ)) (word : List ℕ) (fault : WordFault) → slice_get words at ≡ Some word → is_option word ≡ true → bytes_eq word (codes "--") ≡ false
-    → option_fault steps at word ≡ None → steps_value (at + 1) (drop (at + 1) words) ≡ Err fault
-    → plain_words steps at (drop at words) ≡ Err fault
-words-bad_value steps at words word fault here dash more known gives = words-valued steps at words word (Err fault) here dash more known gives
+pub words-bad_value : (limit : Option ℕ) (at : ℕ) (words : List (List ℕ)) (word : List ℕ) (fault : WordFault) → slice_get words at ≡ Some word → is_option word ≡ true → bytes_eq word (codes "--") ≡ false
+    → option_fault limit at word ≡ None → limit_value (at + 1) (drop (at + 1) words) ≡ Err fault
+    → plain_words limit at (drop at words) ≡ Err fault
+words-bad_value limit at words word fault here dash more known gives = words-valued limit at words word (Err fault) here dash more known gives
 
 drop-two : (words : List (List ℕ)) (at : ℕ) → drop 1 (drop (at + 1) words) ≡ drop (at + 2) words
 drop-two words at =
     let two : at + 1 + 1 ≡ at + 2 = omega arith in
     drop-drop 1 (at + 1) words ∙ ap (λ (n : ℕ). drop n words) two
 
-pub words-next : (steps : Option ℕ) (at n : ℕ) (words : List (List ℕ)) (word : List ℕ) → slice_get words at ≡ Some word → is_option word ≡ true → bytes_eq word (codes "--") ≡ false
-    → option_fault steps at word ≡ None → steps_value (at + 1) (drop (at + 1) words) ≡ Ok n
-    → plain_words steps at (drop at words) ≡ plain_words (Some n) (at + 2) (drop (at + 2) words)
-words-next steps at n words word here dash more known gives =
-    words-valued steps at words word (Ok n) here dash more known gives ∙ ap (plain_words (Some n) (at + 2)) (drop-two words at)
+pub words-next : (limit : Option ℕ) (at n : ℕ) (words : List (List ℕ)) (word : List ℕ) → slice_get words at ≡ Some word → is_option word ≡ true → bytes_eq word (codes "--") ≡ false
+    → option_fault limit at word ≡ None → limit_value (at + 1) (drop (at + 1) words) ≡ Ok n
+    → plain_words limit at (drop at words) ≡ plain_words (Some n) (at + 2) (drop (at + 2) words)
+words-next limit at n words word here dash more known gives =
+    words-valued limit at words word (Ok n) here dash more known gives ∙ ap (plain_words (Some n) (at + 2)) (drop-two words at)
 
 -- the first word names the command
 pub command-plain : (words : List (List ℕ)) (name : List ℕ) → slice_get words 0 ≡ Some name → bytes_eq name (codes "plain") ≡ true → command_of words ≡ plain_words None 1 (drop 1 words)

@@ -7,9 +7,9 @@ use Rattle.folder_tree.specs.Answers.{AnsweredBy, Suits}
 use Rattle.folder_tree.specs.Laws.{number_at-named, opens_of-opened, release_told, released-opened, files_of-released}
 use Rattle.folder_tree.specs.declared.folder.FolderStop.{FolderStop}
 use Rattle.folder_tree.specs.declared.folder.FolderStop.TheVariants.{Failed, NoMemory}
-use Rattle.spike_front.specs.Program.{HasFiles, IsProgram, IsReadOf}
-use Rattle.spike_front.specs.declared.program.Program.{Program}
-use Rattle.spike_front.specs.declared.program.Program.TheVariants.{Missing, TooLarge, Bytes}
+use Rattle.spike_front.specs.FoundFiles.{HasFiles, IsFound, IsReadOf}
+use Rattle.spike_front.specs.declared.file.FoundFile.{FoundFile}
+use Rattle.spike_front.specs.declared.file.FoundFile.TheVariants.{Missing, TooLarge, Bytes}
 
 -- a refused call leaves the tree
 pub refused_told : {A : Type 0} (t : Tree) (after : Option Tree) (row : Tree → Option (After A)) (stop : FolderStop) → AnsweredBy {A = A} t after (row t) (Err stop) → after ≡ Some t
@@ -40,7 +40,7 @@ pub released_told : (t : Tree) (path : Parts) (number : ℕ) (after : Option Tre
 released_told t path number after formed is told = release_told (opened t number) number after told ∙ ap Some (released-opened t number formed (number_at-named t path number is))
 
 -- what was read of the file at a path
-pub read_program_of : (file : Option (List ℕ)) (bytes : List ℕ) (program : Program) → file ≡ Some bytes → IsReadOf bytes program → IsProgram file program
-read_program_of file bytes Missing is read = absurd read
-read_program_of file bytes TooLarge is read = (bytes, is, read)
-read_program_of file bytes (Bytes items) is read = (is ∙ ap Some (sym read.1), omega (arith, read.0, ap length read.1))
+pub found_of : (limit : ℕ) (file : Option (List ℕ)) (bytes : List ℕ) (found : FoundFile) → file ≡ Some bytes → IsReadOf limit bytes found → IsFound limit file found
+found_of limit file bytes Missing is read = absurd read
+found_of limit file bytes TooLarge is read = (bytes, is, read)
+found_of limit file bytes (Bytes items) is read = (is ∙ ap Some (sym read.1), omega (arith, read.0, ap length read.1))

@@ -1,4 +1,7 @@
 pub mod Words
+pub mod Answers
 pub mod Report
-pub mod Program
-pub mod Front
+pub mod Causes
+pub mod FoundFiles
+pub mod Plans
+pub mod Runs

@@ -19,17 +19,18 @@ usage_number ValueMissing = 5
 usage_number BadNumber = 6
 usage_number FileMissing = 9
 
--- the most steps of a run, where the words give no number
-abbrev pub default_steps : ℕ
-default_steps = 1000000000
+-- the limit of steps, where the words give none
+abbrev pub default_limit : ℕ
+default_limit = 1000000000
 
--- the greatest number of steps that the words may give
-abbrev pub greatest_steps : ℕ
-greatest_steps = 1000000000000
+-- the greatest limit of steps that the words may give
+abbrev pub greatest_limit : ℕ
+greatest_limit = 1000000000000
 
 -- a name of a command that is not built
 abbrev pub is_unbuilt_name : List ℕ → Bool
-is_unbuilt_name name = bytes_eq name (codes "run") || bytes_eq name (codes "kernel") || bytes_eq name (codes "asm") || bytes_eq name (codes "demo")
+is_unbuilt_name name = bytes_eq name (codes "run") || bytes_eq name (codes "kernel") || bytes_eq name (codes "asm")
+    || bytes_eq name (codes "demo")
 
 -- a word that is an option, or that ends the options: two or more bytes, the first of them a dash
 abbrev pub is_option : List ℕ → Bool
@@ -43,47 +44,49 @@ is_numeral word = nat_lt 0 (length word) && nat_le (length word) 20 && all_ascii
 -- the number that a word writes, where it is between these two
 abbrev pub number_within : ℕ → ℕ → List ℕ → Option ℕ
 number_within least most word =
-    if is_numeral word && nat_le least (digits_value 10 word) && nat_le (digits_value 10 word) most then Some (digits_value 10 word) else None
+    if is_numeral word && nat_le least (digits_value 10 word) && nat_le (digits_value 10 word) most
+    then Some (digits_value 10 word) else None
 
--- the number of steps that the first of these words gives; it stands at a place, or is missing there
-abbrev pub steps_value : ℕ → List (List ℕ) → Result ℕ WordFault
-steps_value place [] = Err (Usage ValueMissing place)
-steps_value place (value ∷ words) = ok_or (number_within 1 greatest_steps value) (Usage BadNumber place)
+-- the limit that the first of these words gives; it stands at a place, or is missing there
+abbrev pub limit_value : ℕ → List (List ℕ) → Result ℕ WordFault
+limit_value place [] = Err (Usage ValueMissing place)
+limit_value place (value ∷ words) = ok_or (number_within 1 greatest_limit value) (Usage BadNumber place)
 
 -- why an option at a place is refused whatever its value: it is not built, there is none such, or it was given before
 abbrev pub option_fault : Option ℕ → ℕ → List ℕ → Option WordFault
-option_fault steps place word =
+option_fault limit place word =
     if bytes_eq word (codes "--folder") then Some NotBuilt
     else if not (bytes_eq word (codes "--steps")) then Some (Usage UnknownOption place)
-    else if is_some steps then Some (Usage OptionRepeated place)
+    else if is_some limit then Some (Usage OptionRepeated place)
     else None
 
--- the number of steps that an option at a place gives by the first of the words behind it, unless the option is refused
+-- the limit that an option at a place gives by the first of the words behind it, unless the option is refused
 abbrev pub option_value : Option WordFault → ℕ → List (List ℕ) → Result ℕ WordFault
 option_value (Some fault) place words = Err fault
-option_value None place words = steps_value (place + 1) words
+option_value None place words = limit_value (place + 1) words
 
 -- `plain` with the first of these words, which stands at a place, as FILE
 abbrev pub plain_file : Option ℕ → ℕ → List (List ℕ) → Result Command WordFault
-plain_file steps place [] = Err (Usage FileMissing place)
-plain_file steps place (file ∷ words) = Ok (Plain (unwrap_or steps default_steps) place)
+plain_file limit place [] = Err (Usage FileMissing place)
+plain_file limit place (file ∷ words) = Ok (Plain (unwrap_or limit default_limit) place)
 
 -- what is read behind a value, or the failure of that value
 abbrev pub with_value : Result ℕ WordFault → (ℕ → Result Command WordFault) → Result Command WordFault
 with_value (Ok value) behind = behind value
 with_value (Err fault) behind = Err fault
 
--- `plain` with these words, the first of which stands at a place: options with their values, `--` if the next word begins with a dash, and FILE
+-- `plain` with these words, the first of which stands at a place: options with their values, `--` if the next word
+-- begins with a dash, and FILE
 abbrev pub plain_words : Option ℕ → ℕ → List (List ℕ) → Result Command WordFault
-plain_words steps place [] = plain_file steps place []
-plain_words steps place (word ∷ []) =
-    if not (is_option word) then plain_file steps place (word ∷ [])
-    else if bytes_eq word (codes "--") then plain_file steps (place + 1) []
-    else with_value (option_value (option_fault steps place word) place []) (λ value. plain_file (Some value) (place + 2) [])
-plain_words steps place (word ∷ next ∷ words) =
-    if not (is_option word) then plain_file steps place (word ∷ next ∷ words)
-    else if bytes_eq word (codes "--") then plain_file steps (place + 1) (next ∷ words)
-    else with_value (option_value (option_fault steps place word) place (next ∷ words)) (λ value. plain_words (Some value) (place + 2) words)
+plain_words limit place [] = plain_file limit place []
+plain_words limit place (word ∷ []) =
+    if not (is_option word) then plain_file limit place (word ∷ [])
+    else if bytes_eq word (codes "--") then plain_file limit (place + 1) []
+    else with_value (option_value (option_fault limit place word) place []) (λ value. plain_file (Some value) (place + 2) [])
+plain_words limit place (word ∷ next ∷ words) =
+    if not (is_option word) then plain_file limit place (word ∷ next ∷ words)
+    else if bytes_eq word (codes "--") then plain_file limit (place + 1) (next ∷ words)
+    else with_value (option_value (option_fault limit place word) place (next ∷ words)) (λ value. plain_words (Some value) (place + 2) words)
 
 -- the command that the words are, or their first failure from the left
 abbrev pub command_of : List (List ℕ) → Result Command WordFault
@@ -95,4 +98,4 @@ command_of (name ∷ words) =
 
 -- some steps may be made, and FILE is one of so many words
 abbrev pub IsSound : ℕ → Command → Type 0
-IsSound count (Plain steps file) = (0 < steps) × (file < count)
+IsSound count (Plain limit file) = (0 < limit) × (file < count)

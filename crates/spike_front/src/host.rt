@@ -8,7 +8,9 @@ use std::fs::{OpenFile, metadata, open};
 use std::io;
 use std::io::{ErrorKind, Read, Seek, SeekFrom};
 use std::rt::Files;
-use std::str::from_utf8;
+
+/// The device that gives nothing.
+pub const NULL_DEVICE: &str = "/dev/null";
 
 /// The working directory of the runtime. A number stands for one open file.
 #[derive(Drop)]
@@ -21,9 +23,9 @@ pub struct HostFolder<R: Files + AllocGlobal + Drop> {
 
 // The path as the system reads it: the root is the working directory itself.
 fn name_of(path: &Path) -> &str {
-    match from_utf8(path.text()) {
-        Ok("") | Err(_) => ".",
-        Ok(name) => name,
+    match path.as_str() {
+        "" => ".",
+        name => name,
     }
 }
 

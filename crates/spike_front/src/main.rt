@@ -1,31 +1,56 @@
-// The front end's program. `front` does what the words of the command line ask for: it reads the
-// file that they name, runs it on the direct machine between standard input and standard output,
-// and puts one line on standard error that tells how that ended and after how many steps. Its
-// contract says of every source, sinks and folder that tell what they hold: what is left is always
-// what the direct run has after the reported steps, and nothing is touched before the run. Of others
-// it says the causes of faults and the order of the work. `main` hands in the process's own streams
-// and working directory.
+// The front end's program. `front` does what the words of the command line ask for: it reads the file that they name,
+// runs it on the direct machine between standard input and standard output, and puts one line on standard error that
+// tells how that ended and after how many steps. `main` hands in the process's own streams and working directory.
+//
+// What each clause of `front` says:
+//
+// - `words`, `other_words`, `other_words_untouched`: Words that are no command are refused first, exactly, with the
+//   kind and place of their first failure by the grammar of `specs/Words`, and then nothing but the report is called.
+// - `refusal`, `refused`, `refused_untouched`: The other refusals (no program, the file's fault, arguments too long)
+//   are exactly those of the plan that words and files determine (`specs/Plans`), in order. They yield only to a fault
+//   of the folder, to want of memory and to a report that fails. All files are as they were.
+// - `early_untouched`: Whatever the objects tell: a refusal, a fault of the folder and want of memory come before a
+//   first step, and then input and console were not called.
+// - `too_long`, `spent`: ArgsTooLong(N) comes only where the main vars of the words' arguments have N bytes, above
+//   65,536; the number of StepsSpent is the limit of the words.
+// - `opens`: Of a told tree all stays but that one of its files may be open once more.
+// - `reported`: A told report has grown by exactly the line of the answer with some number of steps: 0 for what comes
+//   before a first step, and the limit where that was spent. After ReportFault it is as it was.
+// - `ran`: On every answer of a run, the faults and OutOfMemory too, there is one number of steps at which console,
+//   untaken input and files are those of the direct run (`specs/Runs`), and which the report tells. No earlier state
+//   had ended or came to a step that is not built. Exited(s), StepsSpent(limit) and NotBuilt(3) come exactly where the
+//   direct run says so. A fault of the console comes only at a step that puts bytes; each fault has its cause also
+//   where ReportFault replaced it. A steady console with room for one step more, and a steady folder, fail no run.
+//   Unless the folder failed or there was no memory, the whole tree is as it was, counts of opens too.
+// - `file_cause`, `console_cause`, `report_cause`: The counts of faults never fall, and each fault comes only where the
+//   count of that object rose in this call.
+// - `input_fault`, `input_untouched`: InputFault never comes, and the input is not called.
+// - `file_steady`, `report_steady`: Over a steady folder, and a steady report with room for 128 bytes, no fault of
+//   theirs is answered.
 #![tactic(auto)]
 
 mod answer;
+mod file;
 mod front;
 mod host;
 mod plan;
-mod program;
 mod report;
+mod run;
 #[cfg(test)]
 mod tests;
 mod words;
 
+ghost use Rattle.std.specs.Prelude.{◌≡◌};
+ghost use Rattle.std.specs.Process.{exit_status};
+ghost use Rattle.spike_front.specs.Report.{code_of};
+
+use answer::Answer;
 use fe_base::{StdSink, StdSource, Words};
-use front::front as answer_words;
-use host::HostFolder;
+use host::{HostFolder, NULL_DEVICE};
+use std::fs::open;
 use std::io::ErrorKind;
 use std::process::ExitCode;
 use std::{env, io};
-
-/// The status of a process that finds no memory for its words.
-const NO_MEMORY: u8 = 74;
 
 // The words after the program's name. Words that are not all UTF-8 are no words.
 fn words_of(rt: &HostRuntime) -> io::Result<Words> {
@@ -42,21 +67,35 @@ fn words_of(rt: &HostRuntime) -> io::Result<Words> {
     Ok(words)
 }
 
+// The status of the process for an answer.
+fn status_of(answer: Answer) -> ExitCode
+    ensures { exit_status result ≡ code_of answer }
+{
+    ExitCode::from(answer.code())
+}
+
 fn main(rt: HostRuntime) -> ExitCode {
+    // Where a standard stream is closed, the first file that is opened gets its number, and would then be read or
+    // written in its place. So the null device is opened for reading three times, and held: a write to such a stream
+    // fails.
+    let _numbers = [
+        open(&rt, NULL_DEVICE),
+        open(&rt, NULL_DEVICE),
+        open(&rt, NULL_DEVICE),
+    ];
     let Ok(words) = words_of(&rt) else {
-        return ExitCode::from(NO_MEMORY);
+        return status_of(Answer::OutOfMemory);
     };
     let mut input = StdSource::over(rt.stdin());
     let mut console = StdSink::over(rt.stdout());
     let mut report = StdSink::over(rt.stderr());
     let mut folder = HostFolder::here(rt);
-    let answer = answer_words(
+    status_of(front::front(
         rt.alloc(),
         &words,
         &mut input,
         &mut console,
         &mut report,
         &mut folder,
-    );
-    ExitCode::from(answer.code())
+    ))
 }

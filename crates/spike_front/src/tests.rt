@@ -1,6 +1,8 @@
 // `front` over objects in memory: what it answers, puts on the console and reports.
 ghost use Rattle.std.specs.Prelude.{◌≡◌, ◌<◌, length};
 
+mod quiet_folder;
+
 use crate::answer::Answer;
 use crate::front::front;
 use crate::host::HostFolder;
@@ -8,6 +10,7 @@ use elf_loader::{ElfFault, read_elf};
 use fe_base::{ByteSink, ByteSource, Words};
 use folder_tree::{FilesFolder, Folder, FolderStop, Path, PathKind, read_path};
 use plain_machine::{Plain, PlainEnd};
+use quiet_folder::{Calls, QuietFolder};
 use std::alloc::{AllocError, Global};
 use std::fs;
 use std::process::Abort;
@@ -677,5 +680,63 @@ fn the_working_directory_is_read(rt: HostRuntime) -> Result<(), Fail> {
     assert_eq!(rt; folder.size(number), Err(FolderStop::Failed));
     assert_eq!(rt; folder.size(other), Ok(6));
     fs::remove_file(&rt, "host_folder")?;
+    Ok(())
+}
+
+// `plain p` over a folder that tells nothing, with a file of these bytes and this size, is answered so after so many reads
+// and one call of each other kind.
+fn reads(
+    rt: &impl Abort,
+    alloc: Global,
+    bytes: &[u8],
+    size: u64,
+    reads: u64,
+    answer: Answer,
+) -> Result<(), Fail> {
+    let mut words = Words::new(alloc);
+    words.push("plain")?;
+    words.push("p")?;
+    let mut input = ByteSource::new(alloc, b"", &[])?;
+    let mut console = ByteSink::new(alloc, 100, &[])?;
+    let mut report = ByteSink::new(alloc, 128, &[])?;
+    let mut folder = QuietFolder::new(bytes, size);
+    let given = front(
+        alloc,
+        &words,
+        &mut input,
+        &mut console,
+        &mut report,
+        &mut folder,
+    );
+    let calls = Calls {
+        kind: 1,
+        open_file: 1,
+        size: 1,
+        read_at: reads,
+        release: 1,
+    };
+    assert_eq!(rt; given, answer);
+    assert_eq!(rt; folder.calls(), calls);
+    Ok(())
+}
+
+#[test]
+fn files_are_read_in_pieces(rt: HostRuntime) -> Result<(), Fail> {
+    let alloc = rt.alloc();
+    let file = program(alloc, &END)?;
+    let size = file.len() as u64;
+    let (cut, _) = file.split_at(file.len().saturating_sub(1));
+    reads(&rt, alloc, &file, size, 1, Answer::Exited(0))?;
+    // A read that ends early: what has come is the file, and nothing is filled in.
+    let fault = Answer::BadElf(ElfFault::Segment(0));
+    reads(&rt, alloc, cut, size, 2, fault)?;
+    reads(&rt, alloc, b"", size, 1, Answer::BadElf(ElfFault::Short))?;
+    // A file above the limit is not read.
+    let large = Answer::BadElf(ElfFault::TooLarge);
+    reads(&rt, alloc, &file, 67_108_865, 0, large)?;
+    let mut long = file;
+    let behind: Vec<u8> = vec![in alloc; 0; 1_048_576]?;
+    long.extend_from_slice(&behind)?;
+    reads(&rt, alloc, &long, long.len() as u64, 2, Answer::Exited(0))?;
     Ok(())
 }

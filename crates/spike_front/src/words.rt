@@ -5,18 +5,18 @@ ghost use Rattle.spike_front.specs.Words.{command_of, IsSound};
 
 use fe_base::Words;
 
-/// The most steps of a run, where the words give no number.
-const DEFAULT_STEPS: u64 = 1_000_000_000;
+/// The limit of steps, where the words give none.
+const DEFAULT_LIMIT: u64 = 1_000_000_000;
 
-/// The greatest number of steps that the words may give.
-const GREATEST_STEPS: u64 = 1_000_000_000_000;
+/// The greatest limit of steps that the words may give.
+const GREATEST_LIMIT: u64 = 1_000_000_000_000;
 
 /// What the words ask for.
 #[derive(Clone, Copy)]
 pub enum Command {
-    /// Run the program whose file the word at the index `file` names, for at most so many steps on
-    /// the direct machine. Its arguments are that word and those behind it.
-    Plain { steps: u64, file: usize },
+    /// Run the program whose file the word at the index `file` names, for at most `limit` steps on the direct machine.
+    /// Its arguments are that word and those behind it.
+    Plain { limit: u64, file: usize },
 }
 
 /// How words fail.
@@ -90,21 +90,21 @@ fn number_within(word: &str, least: u64, most: u64) -> Option<u64>
     }
 }
 
-// The number of steps that the word at the index gives.
-fn steps_value(words: &Words, at: usize) -> Result<u64, WordFault>
-    ensures value { result ≡ spec.steps_value at (drop at words.now) }
-    ensures some { IfOk result (λ steps. 0 < steps) }
+// The limit of steps that the word at the index gives.
+fn limit_value(words: &Words, at: usize) -> Result<u64, WordFault>
+    ensures value { result ≡ spec.limit_value at (drop at words.now) }
+    ensures some { IfOk result (λ limit. 0 < limit) }
 {
     if at >= words.len() {
         return Err(WordFault::Usage(UsageKind::ValueMissing, at as u64));
     }
-    match number_within(words.word(at), 1, GREATEST_STEPS) {
-        Some(steps) => Ok(steps),
+    match number_within(words.word(at), 1, GREATEST_LIMIT) {
+        Some(limit) => Ok(limit),
         None => Err(WordFault::Usage(UsageKind::BadNumber, at as u64)),
     }
 }
 
-// Why the option at the index is refused whatever its value, behind options that gave these steps.
+// Why the option at the index is refused whatever its value, behind options that gave this limit.
 fn option_fault(word: &str, at: usize, before: Option<u64>) -> Option<WordFault>
     ensures { result ≡ spec.option_fault before at word.now }
 {
@@ -121,16 +121,16 @@ fn option_fault(word: &str, at: usize, before: Option<u64>) -> Option<WordFault>
 }
 
 // `plain` with the word at the index as FILE.
-fn plain_file(words: &Words, at: usize, steps: Option<u64>) -> Result<Command, WordFault>
-    requires { IfSome steps (λ n. 0 < n) }
-    ensures value { result ≡ spec.plain_file steps at (drop at words.now) }
+fn plain_file(words: &Words, at: usize, limit: Option<u64>) -> Result<Command, WordFault>
+    requires { IfSome limit (λ n. 0 < n) }
+    ensures value { result ≡ spec.plain_file limit at (drop at words.now) }
     ensures sound { IfOk result (IsSound (length words.now)) }
 {
     if at >= words.len() {
         return Err(WordFault::Usage(UsageKind::FileMissing, at as u64));
     }
     Ok(Command::Plain {
-        steps: steps.unwrap_or(DEFAULT_STEPS),
+        limit: limit.unwrap_or(DEFAULT_LIMIT),
         file: at,
     })
 }
@@ -141,20 +141,20 @@ fn plain_words(words: &Words) -> Result<Command, WordFault>
     ensures value { result ≡ spec.plain_words None 1 (drop 1 words.now) }
     ensures sound { IfOk result (IsSound (length words.now)) }
 {
-    let mut steps = None;
+    let mut limit = None;
     let mut at = 1;
     'options: while at < words.len() && is_option(words.word(at)) {
         let word = words.word(at);
         if word == "--" {
-            return plain_file(words, at + 1, steps);
+            return plain_file(words, at + 1, limit);
         }
-        if let Some(fault) = option_fault(word, at, steps) {
+        if let Some(fault) = option_fault(word, at, limit) {
             return Err(fault);
         }
-        steps = Some(steps_value(words, at + 1)?);
+        limit = Some(limit_value(words, at + 1)?);
         at += 2;
     }
-    plain_file(words, at, steps)
+    plain_file(words, at, limit)
 }
 
 /// The command that the words are, or their first failure from the left.

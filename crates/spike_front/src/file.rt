@@ -1,21 +1,16 @@
-// The file that the words name: found, read and judged before anything runs.
+// The file that a word names: found and read, unless it is too large.
 ghost use Rattle.std.specs.Prelude.{◌≡◌, ◌≤◌, ◌<◌, IfOk, IsErrOf, Some, length, take, nat_lt, true};
-ghost use Rattle.fe_base.specs.Outside.{Rose};
 ghost use Rattle.folder_tree.specs.Tree.{Tree, IsWellFormed, bytes_of, file_of, opens_of};
-ghost use Rattle.spike_front.specs.Program.{IsProgram, IsReadOf, HasFiles, StaysOrOpens};
+ghost use Rattle.spike_front.specs.Causes.{RoseFor};
+ghost use Rattle.spike_front.specs.FoundFiles.{IsFound, IsReadOf, HasFiles, StaysOrOpens};
 
+use fe_base::limits::TRANSFER_LIMIT;
 use folder_tree::{Folder, FolderStop, Path, PathKind};
 use std::alloc::{AllocError, Global};
 
-/// The most bytes of a program file that are read.
-pub const FILE_LIMIT: u64 = 67_108_864;
-
-/// The most bytes that one read asks for.
-const READ_LIMIT: usize = 1_048_576;
-
 /// What stands at a path.
 #[derive(Drop)]
-pub enum Program {
+pub enum FoundFile {
     /// No file.
     Missing,
     /// A file of more bytes than the limit.
@@ -32,7 +27,7 @@ pub enum Stop {
 }
 
 impl From<FolderStop> for Stop {
-    ghost use Rattle.spike_front.specs.Program.{stop_of};
+    ghost use Rattle.spike_front.specs.FoundFiles.{stop_of};
 
     ghost from_gives = { λ stop e. e ≡ stop_of stop };
 
@@ -45,7 +40,7 @@ impl From<FolderStop> for Stop {
 }
 
 impl From<AllocError> for Stop {
-    ghost use Rattle.spike_front.specs.declared.program.Stop.TheVariants.{OutOfMemory};
+    ghost use Rattle.spike_front.specs.declared.file.Stop.TheVariants.{OutOfMemory};
 
     ghost from_gives = { λ _ e. e ≡ OutOfMemory };
 
@@ -69,15 +64,16 @@ fn read_more<F: Folder>(
 ) -> Result<usize, Stop>
     requires { count < length bytes.old }
     ensures later { IfOk result (λ now. (count ≤ now) × (now ≤ length bytes.old)) }
-    ensures told { IfOk result (λ now. (t : Tree) → F.tree folder.old ≡ Some t → length bytes.old ≡ length (bytes_of t number)
-        → take count bytes.old ≡ take count (bytes_of t number) → (count < now) × (take now bytes.new ≡ take now (bytes_of t number))) }
+    ensures told { IfOk result (λ now. (t : Tree) → F.tree folder.old ≡ Some t
+        → length bytes.old ≡ length (bytes_of t number)
+        → take count bytes.old ≡ take count (bytes_of t number) → (count < now)
+        × (take now bytes.new ≡ take now (bytes_of t number))) }
     ensures tree { (t : Tree) → F.tree folder.old ≡ Some t → F.tree folder.new ≡ Some t }
-    ensures faults { F.faults folder.old ≤ F.faults folder.new }
-    ensures file_fault { IsErrOf result Stop.FileFault → Rose (F.faults folder.old) (F.faults folder.new) }
+    ensures cause { RoseFor (IsErrOf result Stop.FileFault) (F.faults folder.old) (F.faults folder.new) }
     ensures steady { (t : Tree) → F.tree folder.old ≡ Some t → F.steady folder.old → nat_lt 0 (opens_of t number) ≡ true
         → (IsErrOf result Stop.FileFault → ⊥) × F.steady folder.new }
 {
-    let end = bytes.len().min(count + READ_LIMIT);
+    let end = bytes.len().min(count + TRANSFER_LIMIT as usize);
     let read = folder.read_at(number, count as u64, &mut bytes[count..end])?;
     Ok(count + read)
 }
@@ -92,8 +88,7 @@ fn read_open<F: Folder>(
     ensures told { IfOk result (λ bytes. (t : Tree) → F.tree folder.old ≡ Some t → size ≡ length (bytes_of t number)
         → bytes.items ≡ bytes_of t number) }
     ensures tree { (t : Tree) → F.tree folder.old ≡ Some t → F.tree folder.new ≡ Some t }
-    ensures faults { F.faults folder.old ≤ F.faults folder.new }
-    ensures file_fault { IsErrOf result Stop.FileFault → Rose (F.faults folder.old) (F.faults folder.new) }
+    ensures cause { RoseFor (IsErrOf result Stop.FileFault) (F.faults folder.old) (F.faults folder.new) }
     ensures steady { (t : Tree) → F.tree folder.old ≡ Some t → F.steady folder.old → nat_lt 0 (opens_of t number) ≡ true
         → (IsErrOf result Stop.FileFault → ⊥) × F.steady folder.new }
 {
@@ -110,39 +105,48 @@ fn read_open<F: Folder>(
     Ok(bytes)
 }
 
-// What an open file holds.
-fn read_file<F: Folder>(alloc: Global, folder: &mut F, number: u64) -> Result<Program, Stop>
-    ensures told { IfOk result (λ program. (t : Tree) → F.tree folder.old ≡ Some t → IsReadOf (bytes_of t number) program) }
+// What an open file holds, where that is at most so many bytes.
+fn read_file<F: Folder>(
+    alloc: Global,
+    folder: &mut F,
+    number: u64,
+    limit: u64,
+) -> Result<FoundFile, Stop>
+    ensures told { IfOk result (λ found. (t : Tree) → F.tree folder.old ≡ Some t
+        → IsReadOf limit (bytes_of t number) found) }
     ensures tree { (t : Tree) → F.tree folder.old ≡ Some t → F.tree folder.new ≡ Some t }
-    ensures faults { F.faults folder.old ≤ F.faults folder.new }
-    ensures file_fault { IsErrOf result Stop.FileFault → Rose (F.faults folder.old) (F.faults folder.new) }
+    ensures cause { RoseFor (IsErrOf result Stop.FileFault) (F.faults folder.old) (F.faults folder.new) }
     ensures steady { (t : Tree) → F.tree folder.old ≡ Some t → F.steady folder.old → nat_lt 0 (opens_of t number) ≡ true
         → (IsErrOf result Stop.FileFault → ⊥) × F.steady folder.new }
 {
     let size = folder.size(number)?;
-    if size > FILE_LIMIT {
-        return Ok(Program::TooLarge);
+    if size > limit {
+        return Ok(FoundFile::TooLarge);
     }
     let bytes = read_open(alloc, folder, number, size as usize)?;
-    Ok(Program::Bytes(bytes))
+    Ok(FoundFile::Bytes(bytes))
 }
 
-/// What stands at a path. A file is opened, read and released again.
-pub fn read_program<F: Folder>(alloc: Global, folder: &mut F, path: &Path) -> Result<Program, Stop>
-    ensures told { IfOk result (λ program. (t : Tree) → IsWellFormed t → F.tree folder.old ≡ Some t
-        → IsProgram (file_of t path.now) program × (F.tree folder.new ≡ Some t)) }
+/// What stands at a path, with the bytes of a file of at most so many. A file is opened, read and released again.
+pub fn find_file<F: Folder>(
+    alloc: Global,
+    folder: &mut F,
+    path: &Path,
+    limit: u64,
+) -> Result<FoundFile, Stop>
+    ensures told { IfOk result (λ found. (t : Tree) → IsWellFormed t → F.tree folder.old ≡ Some t
+        → IsFound limit (file_of t path.now) found × (F.tree folder.new ≡ Some t)) }
     ensures files { (t : Tree) → F.tree folder.old ≡ Some t → HasFiles t (F.tree folder.new) }
     ensures opens { (t : Tree) → IsWellFormed t → F.tree folder.old ≡ Some t → StaysOrOpens t (F.tree folder.new) }
-    ensures faults { F.faults folder.old ≤ F.faults folder.new }
-    ensures file_fault { IsErrOf result Stop.FileFault → Rose (F.faults folder.old) (F.faults folder.new) }
+    ensures cause { RoseFor (IsErrOf result Stop.FileFault) (F.faults folder.old) (F.faults folder.new) }
     ensures steady { (t : Tree) → F.tree folder.old ≡ Some t → F.steady folder.old
         → (IsErrOf result Stop.FileFault → ⊥) × F.steady folder.new }
 {
     if folder.kind(path)? != PathKind::File {
-        return Ok(Program::Missing);
+        return Ok(FoundFile::Missing);
     }
     let number = folder.open_file(path)?;
-    let program = read_file(alloc, folder, number)?;
+    let found = read_file(alloc, folder, number, limit)?;
     folder.release(number)?;
-    Ok(program)
+    Ok(found)
 }

@@ -1,6 +1,6 @@
 use Rattle.std.proofs.Common.{◌≡◌, ◌-◌, ◌≤◌, ℕ, length, take, drop, arith, length-take, length-drop}
 use Rattle.spike_front.proofs.FileReads.{read_told, read_on}
-use Rattle.spike_front.proofs.program.read_more.Goals as goal
+use Rattle.spike_front.proofs.file.read_more.Goals as goal
 
 pub returns-clause-told : goal.returns-clause-told
 returns-clause-told g c = λ t told same came.

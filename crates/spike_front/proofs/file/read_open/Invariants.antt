@@ -1,6 +1,6 @@
 use Rattle.std.proofs.Common.{◌≡◌, ◌≤◌, ◌-◌, Some, length, take, nat_lt, true}
 use Rattle.folder_tree.specs.Tree.{Tree, opens_of, bytes_of}
-use Rattle.spike_front.proofs.program.read_open.Given as goal
+use Rattle.spike_front.proofs.file.read_open.Given as goal
 
 abbrev pub invariant-reads : goal.invariant-reads
 invariant-reads g l = record {

@@ -1,0 +1,60 @@
+-- Where the work stands as an answer comes, and the classes of answers that the contracts speak of.
+use Rattle.std.specs.Prelude.{◌≡◌, ◌⊎◌, ◌==◌, if◌then◌else◌}
+use Rattle.spike_front.specs.declared.answer.Answer.{Answer}
+use Rattle.spike_front.specs.declared.answer.Answer.TheVariants.{Exited, Usage, NoProgram, BadElf, ArgsTooLong, StepsSpent, FileFault, InputFault, ConsoleFault, ReportFault, OutOfMemory, NotBuilt}
+
+-- where the work stands: the words are refused, or the file with its arguments; a run has gone to its end, to its limit
+-- or to a step that is not built; the folder failed or there was no memory; the input or the console failed; the
+-- report's line could not be put
+pub data Stage : Type 0 where
+  words_refused : Stage
+  file_refused : Stage
+  run_made : Stage
+  work_stopped : Stage
+  stream_failed : Stage
+  report_failed : Stage
+
+-- where the work stands as each answer comes
+abbrev pub stage_of : Answer → Stage
+stage_of (Exited status) = run_made
+stage_of (Usage kind place) = words_refused
+stage_of NoProgram = file_refused
+stage_of (BadElf fault) = file_refused
+stage_of (ArgsTooLong n) = file_refused
+stage_of (StepsSpent n) = run_made
+stage_of FileFault = work_stopped
+stage_of InputFault = stream_failed
+stage_of ConsoleFault = stream_failed
+stage_of ReportFault = report_failed
+stage_of OutOfMemory = work_stopped
+stage_of (NotBuilt kind) = if kind == 3 then run_made else words_refused
+
+-- the answers to words that are no command
+abbrev pub IsWordsRefusal : Answer → Type 0
+IsWordsRefusal answer = stage_of answer ≡ words_refused
+
+-- the answers that refuse before a run: the words, or the file with its arguments
+abbrev pub IsRefusal : Answer → Type 0
+IsRefusal answer = (stage_of answer ≡ words_refused) ⊎ (stage_of answer ≡ file_refused)
+
+-- what can end the work before a run: the folder failed, or there was no memory
+abbrev pub IsStop : Answer → Type 0
+IsStop answer = stage_of answer ≡ work_stopped
+
+-- the answers that come before a first step
+abbrev pub IsEarly : Answer → Type 0
+IsEarly answer = IsRefusal answer ⊎ IsStop answer
+
+-- the answers that a run can have
+abbrev pub IsRunAnswer : Answer → Type 0
+IsRunAnswer answer = (stage_of answer ≡ run_made)
+    ⊎ ((stage_of answer ≡ work_stopped) ⊎ (stage_of answer ≡ stream_failed))
+
+-- the answers that every other yields to: a fault of the outside, or want of memory
+abbrev pub Yields : Answer → Type 0
+Yields answer = (stage_of answer ≡ work_stopped)
+    ⊎ ((stage_of answer ≡ stream_failed) ⊎ (stage_of answer ≡ report_failed))
+
+-- an answer is told as it is, unless its line could not be put
+abbrev pub IsSaid : Answer → Answer → Type 0
+IsSaid answer result = (result ≡ answer) ⊎ (result ≡ ReportFault)

@@ -1,0 +1,37 @@
+-- The file that a word names: what is found at its path, and what finding it leaves of a tree.
+use Rattle.std.specs.Prelude.{◌≡◌, ◌<◌, ◌≤◌, ◌⊎◌, ℕ, List, length, Option, Some, None}
+use Rattle.folder_tree.specs.Paths.{Parts}
+use Rattle.folder_tree.specs.Tree.{Tree, files_of, number_at}
+use Rattle.folder_tree.specs.TreeOps.{opened}
+use Rattle.folder_tree.specs.declared.folder.FolderStop.{FolderStop}
+use Rattle.folder_tree.specs.declared.folder.FolderStop.TheVariants.{Failed, NoMemory}
+use Rattle.spike_front.specs.declared.file.Stop.{Stop}
+use Rattle.spike_front.specs.declared.file.Stop.TheVariants.{FileFault, OutOfMemory}
+use Rattle.spike_front.specs.declared.file.FoundFile.{FoundFile}
+use Rattle.spike_front.specs.declared.file.FoundFile.TheVariants.{Missing, TooLarge, Bytes}
+
+-- what was read of an open file with these bytes, where at most so many are read
+abbrev pub IsReadOf : ℕ → List ℕ → FoundFile → Type 0
+IsReadOf limit bytes Missing = ⊥
+IsReadOf limit bytes TooLarge = limit < length bytes
+IsReadOf limit bytes (Bytes read) = (length bytes ≤ limit) × (read.items ≡ bytes)
+
+-- what was found at a path with this file, if it has one, where at most so many bytes are read
+abbrev pub IsFound : ℕ → Option (List ℕ) → FoundFile → Type 0
+IsFound limit file Missing = file ≡ None
+IsFound limit file TooLarge = (bytes : List ℕ) × (file ≡ Some bytes) × (limit < length bytes)
+IsFound limit file (Bytes read) = (file ≡ Some read.items) × (length read.items ≤ limit)
+
+-- why a folder's call stops the work
+abbrev pub stop_of : FolderStop → Stop
+stop_of Failed = FileFault
+stop_of NoMemory = OutOfMemory
+
+-- a tree with these files is told; how often each is open is no part of them
+abbrev pub HasFiles : Tree → Option Tree → Type 0
+HasFiles t told = (now : Tree) × (told ≡ Some now) × (files_of now ≡ files_of t)
+
+-- a tree is told as it was, or with one of its files open once more
+abbrev pub StaysOrOpens : Tree → Option Tree → Type 0
+StaysOrOpens t told = (told ≡ Some t) ⊎ ((path : Parts) × (number : ℕ) × (number_at t path ≡ Some number)
+    × (told ≡ Some (opened t number)))
