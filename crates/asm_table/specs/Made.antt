@@ -1,4 +1,4 @@
--- The instruction of a mnemonic and its operands, in the order in which they are written (Unprivileged ISA, instruction listings).
+-- The instruction of a mnemonic and its operands, as they are written (Unprivileged ISA, instruction listings).
 use Rattle.std.specs.Prelude.{ℕ, ℤ}
 use Rattle.rv_decode.specs.declared.instruction.Insn.{Insn}
 use Rattle.rv_decode.specs.declared.instruction.Insn.TheVariants as insn
