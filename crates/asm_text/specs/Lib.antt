@@ -1,0 +1,6 @@
+pub mod Faults
+pub mod Layout
+pub mod Pieces
+pub mod Printing
+pub mod Reading
+pub mod Texts
