@@ -9,9 +9,12 @@ use Rattle.fe_base.proofs.RangeLemmas.{every-some, first-none, first-same}
 use Rattle.guest_memory.specs.Bus.{BusState}
 use Rattle.guest_memory.specs.Memory.{load, store}
 use Rattle.guest_memory.proofs.AreaLemmas.{bus_load-user, bus_store-user}
+use Rattle.rv_decode.specs.Alignment.{instruction_alignment}
 use Rattle.rv_decode.specs.InsnTable.{insn_of}
 use Rattle.rv_decode.specs.declared.instruction.Insn.{Insn}
 use Rattle.rv_alu.specs.Effects.{loaded, put}
+use Rattle.rv_alu.specs.declared.causes.Cause.{Cause}
+use Rattle.rv_alu.specs.declared.causes.Cause.TheVariants.{Misaligned, FetchAccess, LoadAccess, StoreAccess}
 use Rattle.rv_alu.specs.declared.effects.Effect.{Effect}
 use Rattle.rv_alu.specs.declared.effects.Effect.TheVariants.{Pass, Set, Jump, Load, Store, Csr, Call, Break, Return, Wait}
 use Rattle.rv_alu.specs.declared.effects.Size.TheVariants.{Byte, Half, Word, Double}
@@ -22,14 +25,12 @@ use Rattle.rv_csr.specs.declared.privilege.Access.TheVariants.{Read, Write, Exec
 use Rattle.rv_csr.specs.declared.privilege.Mode.{Mode}
 use Rattle.rv_csr.specs.declared.privilege.Mode.TheVariants.{User}
 use Rattle.rv_hart.specs.Accesses.{is_ram_byte, is_permitted, first_refused, refused_byte, hart_load, hart_store}
-use Rattle.rv_hart.specs.HartStep.{HartState, System, over, trapped_as, unless, carried, obeyed, csr_step, instruction_step, hart_step, step_by, counted_step}
+use Rattle.rv_hart.specs.HartStep.{System, SystemStep, over, next_hart, csr_step, instruction_step, executing_step, after_step, hart_step, step_by, counted_step}
 use Rattle.rv_hart.specs.HartStep as hart
 use Rattle.rv_hart.specs.declared.debug.Run.{Run}
-use Rattle.rv_hart.specs.declared.causes.Cause.{Cause}
-use Rattle.rv_hart.specs.declared.causes.Cause.TheVariants.{FetchAccess, LoadAccess, StoreAccess}
 use Rattle.plain_machine.specs.UserStep.{UserState, UserStep, is_user, outside}
 use Rattle.plain_machine.specs.UserStep as user
-use Rattle.kernel_sim.specs.UserMode.{IsFenced, user_fence, user_of, seen, UserStepsAgree, KernelFences}
+use Rattle.kernel_sim.specs.UserMode.{IsFenced, user_fence, user_of, seen, InstructionsAgree, UserStepsAgree, KernelFences}
 
 -- ---- behind the fence user mode reaches the user area, and nothing else
 and-true : (b : Bool) → (b && true) ≡ b
@@ -125,14 +126,14 @@ store-user bus at count value none =
     rw other (bus_store-user bus at (suc count) value (omega arith))
 
 -- ---- effects
-unless-agrees : (refused out : Option ℕ) (cause : Cause) (system after : System) (step : UserStep) → refused ≡ out → (out ≡ None → after ≡ seen step system)
-    → unless refused cause system after ≡ seen (user.unless out (hart.cause_number cause) step) system
+unless-agrees : (refused out : Option ℕ) (cause : Cause) (system : System) (after : SystemStep) (step : UserStep) → refused ≡ out → (out ≡ None → after ≡ seen step system)
+    → hart.unless refused cause after ≡ seen (user.unless out cause step) system
 unless-agrees refused (Some byte) cause system after step same rest = rw same refl
 unless-agrees refused None cause system after step same rest = rw same (rest refl)
 
 jump-agrees : (even : Bool) (system : System) (target after rd : ℕ) →
-    over system.bus (if even then record system.hart { pc = target; registers = put system.hart.registers rd after } else trapped_as 0 target system.hart)
-    ≡ seen (if even then user.next (record (user_of system) { pc = target; registers = put system.hart.registers rd after }) else user.trap 0 target) system
+    (if even then next_hart system.bus (record system.hart { pc = target; registers = put system.hart.registers rd after }) else hart.trap Misaligned target)
+    ≡ seen (if even then user.next (record (user_of system) { pc = target; registers = put system.hart.registers rd after }) else user.trap Misaligned target) system
 jump-agrees true system target after rd = refl
 jump-agrees false system target after rd = refl
 
@@ -141,30 +142,30 @@ module _ (system : System) (mode : system.hart.mode ≡ User) (fenced : IsFenced
   refused-here access at count = rw mode (refused-user system.hart.csrs fenced access at count)
 
   load-agrees : (at count after : ℕ) (registers : ℕ → List ℕ) →
-      unless (refused_byte system.hart.csrs system.hart.mode Read at (suc count)) LoadAccess system
-      (over system.bus (record system.hart { pc = after; registers = registers (hart_load system.bus at (suc count)) }))
-      ≡ seen (user.unless (outside at (suc count)) 5 (user.next (record (user_of system) { pc = after; registers = registers (load system.bus.user (at - user_start) (suc count)) }))) system
+      hart.unless (refused_byte system.hart.csrs system.hart.mode Read at (suc count)) LoadAccess
+      (next_hart system.bus (record system.hart { pc = after; registers = registers (hart_load system.bus at (suc count)) }))
+      ≡ seen (user.unless (outside at (suc count)) LoadAccess (user.next (record (user_of system) { pc = after; registers = registers (load system.bus.user (at - user_start) (suc count)) }))) system
   load-agrees at count after registers =
-      let loaded_system : System = over system.bus (record system.hart { pc = after; registers = registers (hart_load system.bus at (suc count)) }) in
+      let loaded_system : SystemStep = next_hart system.bus (record system.hart { pc = after; registers = registers (hart_load system.bus at (suc count)) }) in
       let step : UserStep = user.next (record (user_of system) { pc = after; registers = registers (load system.bus.user (at - user_start) (suc count)) }) in
       let same : outside at (suc count) ≡ None → loaded_system ≡ seen step system = λ none. rw (load-user system.bus at count none) refl in
       unless-agrees _ (outside at (suc count)) LoadAccess system loaded_system step (refused-here Read at count) same
 
   store-agrees : (at count value after : ℕ) →
-      unless (refused_byte system.hart.csrs system.hart.mode Write at (suc count)) StoreAccess system
-      (over (hart_store system.bus at (suc count) value) (record system.hart { pc = after }))
-      ≡ seen (user.unless (outside at (suc count)) 7 (user.next (record (user_of system) { pc = after; user = store system.bus.user (at - user_start) (suc count) value }))) system
+      hart.unless (refused_byte system.hart.csrs system.hart.mode Write at (suc count)) StoreAccess
+      (next_hart (hart_store system.bus at (suc count) value) (record system.hart { pc = after }))
+      ≡ seen (user.unless (outside at (suc count)) StoreAccess (user.next (record (user_of system) { pc = after; user = store system.bus.user (at - user_start) (suc count) value }))) system
   store-agrees at count value after =
-      let stored : System = over (hart_store system.bus at (suc count) value) (record system.hart { pc = after }) in
+      let stored : SystemStep = next_hart (hart_store system.bus at (suc count) value) (record system.hart { pc = after }) in
       let step : UserStep = user.next (record (user_of system) { pc = after; user = store system.bus.user (at - user_start) (suc count) value }) in
       let same : outside at (suc count) ≡ None → stored ≡ seen step system = λ none. rw (store-user system.bus at count value none) refl in
       unless-agrees _ (outside at (suc count)) StoreAccess system stored step (refused-here Write at count) same
 
-  effect-agrees : (effect : Effect) (bits after : ℕ) → carried effect bits after system ≡ seen (user.carried effect bits after (user_of system)) system
-  unfolding carried user.carried csr_step
+  effect-agrees : (effect : Effect) (bits after : ℕ) → hart.effect_step effect bits after system ≡ seen (user.effect_step effect bits after (user_of system)) system
+  unfolding hart.effect_step user.effect_step csr_step
   effect-agrees Pass bits after = refl
   effect-agrees (Set rd value) bits after = refl
-  effect-agrees (Jump rd target) bits after = jump-agrees (target % 4 == 0) system target after rd
+  effect-agrees (Jump rd target) bits after = jump-agrees (target % instruction_alignment == 0) system target after rd
   effect-agrees (Load rd Byte extends at) bits after = load-agrees at 0 after (λ n. put system.hart.registers rd (loaded Byte extends n))
   effect-agrees (Load rd Half extends at) bits after = load-agrees at 1 after (λ n. put system.hart.registers rd (loaded Half extends n))
   effect-agrees (Load rd Word extends at) bits after = load-agrees at 3 after (λ n. put system.hart.registers rd (loaded Word extends n))
@@ -179,7 +180,7 @@ module _ (system : System) (mode : system.hart.mode ≡ User) (fenced : IsFenced
   effect-agrees Return bits after = rw mode refl
   effect-agrees Wait bits after = rw mode refl
 
-  insn-agrees : (insn : Option Insn) (bits : ℕ) → obeyed insn bits 4 system ≡ seen (user.obeyed insn bits 4 (user_of system)) system
+  insn-agrees : (insn : Option Insn) (bits : ℕ) → hart.insn_step insn bits 4 system ≡ seen (user.insn_step insn bits 4 (user_of system)) system
   insn-agrees (Some insn) bits = effect-agrees _ bits _
   insn-agrees None bits = refl
 
@@ -187,17 +188,20 @@ module _ (system : System) (mode : system.hart.mode ≡ User) (fenced : IsFenced
   unfolding instruction_step
   step-agrees =
       let word : ℕ = load system.bus.user (system.hart.pc - user_start) 4 in
-      let done : System = obeyed (insn_of (hart_load system.bus system.hart.pc 4)) (hart_load system.bus system.hart.pc 4) 4 system in
-      let step : UserStep = user.obeyed (insn_of word) word 4 (user_of system) in
+      let done : SystemStep = hart.insn_step (insn_of (hart_load system.bus system.hart.pc 4)) (hart_load system.bus system.hart.pc 4) 4 system in
+      let step : UserStep = user.insn_step (insn_of word) word 4 (user_of system) in
       let same : outside system.hart.pc 4 ≡ None → done ≡ seen step system = λ none. rw (load-user system.bus system.hart.pc 3 none) (insn-agrees (insn_of word) word) in
       unless-agrees _ (outside system.hart.pc 4) FetchAccess system done step (refused-here Execute system.hart.pc 3) same
+
+pub instructions_agree : InstructionsAgree
+instructions_agree system mode fenced = step-agrees system mode fenced
 
 pub user_steps_agree : UserStepsAgree
 user_steps_agree system run mode fenced =
     let counted : System = over system.bus (counted_step User system.hart) in
-    let begun : hart_step system ≡ instruction_step counted =
-    ap (λ (stands : Run). step_by stands system) run ∙ ap (λ (m : Mode). instruction_step (over system.bus (counted_step m system.hart))) mode in
-    begun ∙ step-agrees counted mode fenced
+    let begun : hart_step system ≡ executing_step counted =
+    ap (λ (stands : Run). step_by stands system) run ∙ ap (λ (m : Mode). executing_step (over system.bus (counted_step m system.hart))) mode in
+    begun ∙ ap (after_step counted) (step-agrees counted mode fenced)
 
 pub kernel_fences : KernelFences
 unfolding csr_of

@@ -4,8 +4,9 @@ use Rattle.fe_base.specs.MemoryMap.{user_start, user_end}
 use Rattle.rv_csr.specs.CsrTable.{CsrState, csr_write}
 use Rattle.rv_csr.specs.Pmp.{PmpState}
 use Rattle.rv_csr.specs.declared.privilege.Mode.TheVariants.{User, Machine}
-use Rattle.rv_hart.specs.HartStep.{System, over, trapped_as, cause_number, counted_step, hart_step}
-use Rattle.rv_hart.specs.declared.causes.Cause.TheVariants.{UserCall}
+use Rattle.rv_alu.specs.declared.causes.Cause.TheVariants.{UserCall}
+use Rattle.rv_hart.specs.HartStep as hart
+use Rattle.rv_hart.specs.HartStep.{System, SystemStep, over, instruction_step, after_step, counted_step, hart_step}
 use Rattle.rv_hart.specs.declared.debug.Run.TheVariants.{Running}
 use Rattle.plain_machine.specs.UserStep.{UserState, UserStep, next, call, trap, user_step}
 
@@ -33,14 +34,28 @@ KernelFences = (csrs : CsrState) → IsSomeAnd (and_written 0x3a0 0x0f00 (and_wr
 abbrev pub user_of : System → UserState
 user_of system = record { pc = system.hart.pc; registers = system.hart.registers; user = system.bus.user }
 
--- a user step on a hart over its bus: its next state, or the trap of its call, or its trap
-abbrev pub seen : UserStep → System → System
-seen (next state) system =
+-- the system with what a user program sees of it
+abbrev pub with_user : UserState → System → System
+with_user state system =
     record { hart = record system.hart { pc = state.pc; registers = state.registers }; bus = record system.bus { user = state.user } }
-seen call system = over system.bus (trapped_as (cause_number UserCall) 0 system.hart)
-seen (trap cause value) system = over system.bus (trapped_as cause value system.hart)
 
--- a step of a running hart in user mode, behind the PMP as the kernel sets it, is the user step, and is counted
+-- a user step on a hart over its bus: the system with its next state, or the trap of its call, or its trap
+abbrev pub seen : UserStep → System → SystemStep
+seen (next state) system = hart.next (with_user state system)
+seen call system = hart.trap UserCall 0
+seen (trap cause value) system = hart.trap cause value
+
+-- an instruction of a hart in user mode, behind the PMP as the kernel sets it, is the user step
+abbrev pub InstructionsAgree : Type 0
+InstructionsAgree = (system : System) → system.hart.mode ≡ User → IsFenced system.hart.csrs
+    → instruction_step system ≡ seen (user_step (user_of system)) system
+
+-- the system after the user step of its program, and after the trap that the step may be
+abbrev pub user_step_on : System → System
+user_step_on system = after_step system (seen (user_step (user_of system)) system)
+
+-- a step of a running hart in user mode, behind the PMP as the kernel sets it, is the user step, whose call or trap the hart
+-- takes, and it is counted
 abbrev pub UserStepsAgree : Type 0
 UserStepsAgree = (system : System) → system.hart.run ≡ Running → system.hart.mode ≡ User → IsFenced system.hart.csrs
-    → hart_step system ≡ seen (user_step (user_of system)) (over system.bus (counted_step User system.hart))
+    → hart_step system ≡ user_step_on (over system.bus (counted_step User system.hart))

@@ -1,9 +1,9 @@
 // A user program's steps on a hart, behind the PMP as the kernel sets it.
 //
-// A step of a hart in user mode, behind the PMP as the kernel sets it, is the user step of the direct machine as it looks from
-// the outside: a next state, or a call or a trap that the hart takes with the same cause and value. That is a law of the
-// definitions, the contract of `user_steps_agree`; `step_user` makes such a step. `kernel_fences` says that the kernel's
-// three writes set that PMP.
+// An instruction of a hart in user mode, behind the PMP as the kernel sets it, is the user step of the direct machine: a
+// next state, or a call, or a trap of the same cause and value. The hart's step takes that call or trap. Both are laws of
+// the definitions, the contracts of `instructions_agree` and `user_steps_agree`; `step_user` makes such a step.
+// `kernel_fences` says that the kernel's three writes set that PMP.
 //
 // Nothing here takes memory.
 #![tactic(auto)]
@@ -11,13 +11,19 @@
 ghost use Rattle.std.specs.Prelude.{◌≡◌};
 ghost use Rattle.rv_csr.specs.declared.privilege.Mode.TheVariants as mode_of;
 ghost use Rattle.guest_memory.specs.Bus.{IsBus};
-ghost use Rattle.rv_hart.specs.HartStep.{IsHart, AreQuiet, over, counted_step};
+ghost use Rattle.rv_hart.specs.HartStep.{IsHart, over, counted_step};
+ghost use Rattle.rv_hart.specs.LinedStep.{AreQuiet};
 ghost use Rattle.rv_hart.specs.declared.debug.Run.TheVariants as run_of;
-ghost use Rattle.plain_machine.specs.UserStep.{user_step};
-ghost use Rattle.kernel_sim.specs.UserMode.{IsFenced, user_of, seen, UserStepsAgree, KernelFences};
+ghost use Rattle.kernel_sim.specs.UserMode.{IsFenced, user_step_on, InstructionsAgree, UserStepsAgree, KernelFences};
 
 use guest_memory::Bus;
 use rv_hart::{DebugLines, Hart};
+
+/// An instruction of a hart in user mode, behind the PMP as the kernel sets it, is the user step.
+#[tactic(auto, using(crate::proofs::Agreement::instructions_agree))]
+pub fn instructions_agree()
+    ensures { InstructionsAgree }
+{}
 
 /// A step of a running hart in user mode, behind the PMP as the kernel sets it, is the user step.
 #[tactic(auto, using(crate::proofs::Agreement::user_steps_agree))]
@@ -37,7 +43,7 @@ pub fn step_user(hart: &mut Hart, bus: &mut Bus, lines: &mut DebugLines)
     requires mode { hart.old.mode ≡ mode_of.User }
     requires fenced { IsFenced hart.old.csrs }
     requires quiet { AreQuiet lines.old }
-    ensures step { over bus.new hart.new ≡ seen (user_step (user_of (over bus.old hart.old))) (over bus.old (counted_step mode_of.User hart.old)) }
+    ensures step { over bus.new hart.new ≡ user_step_on (over bus.old (counted_step mode_of.User hart.old)) }
     ensures lines_stay { lines.new ≡ lines.old }
     ensures range { IsHart hart.new }
     ensures bytes { IsBus bus.old → IsBus bus.new }

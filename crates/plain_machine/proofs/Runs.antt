@@ -4,8 +4,8 @@ use Rattle.std.proofs.Math.Nat.{eq-or-lt_of_le}
 use Rattle.std.proofs.lemmas.Bool.{cases_lt, false≢true}
 use Rattle.folder_tree.specs.Tree.{Tree}
 use Rattle.fe_base.specs.Outside.{capacity, PutSuits}
-use Rattle.plain_machine.specs.UserStep.{UserState, UserStep, next, call, trap, user_step, moves}
-use Rattle.plain_machine.specs.CallTable.{Call, replies, breaks, exits, unbuilt, call_of}
+use Rattle.plain_machine.specs.UserStep.{UserStep, next, call, trap, user_step, moves}
+use Rattle.plain_machine.specs.CallTable.{Process, Call, replies, breaks, exits, unbuilt, call_of}
 use Rattle.plain_machine.specs.Direct.{World, Machine, running, dying, ended, DirectState, PlainState, Tells, IsAt, direct_of, direct_step, machine_step, after_step, after_call, direct_after, direct_after-zero, direct_after-next, status_of, is_built, is_built_step, moves_on, step_puts, user_puts, call_puts, HasRoomFor}
 
 -- a run begins where it stands
@@ -49,17 +49,17 @@ direct-sum n (suc k) s = let more : suc k + n ≡ suc (k + n) = omega arith in a
 
 -- a machine that moves on has not ended, and its step is built
 pub moves-runs : (m : Machine) → moves_on m ≡ true → status_of m ≡ None
-moves-runs (running state program_break first_break) on = refl
+moves-runs (running process) on = refl
 moves-runs (dying text status) on = refl
 moves-runs (ended status) on = absurd (false≢true on)
 
-step-builds : (state : UserState) (program_break first_break : ℕ) (u : UserStep) → moves u ≡ true → is_built_step state program_break first_break u ≡ true
-step-builds state program_break first_break (next moved) on = refl
-step-builds state program_break first_break call on = absurd (false≢true on)
-step-builds state program_break first_break (trap cause value) on = refl
+step-builds : (process : Process) (u : UserStep) → moves u ≡ true → is_built_step process u ≡ true
+step-builds process (next moved) on = refl
+step-builds process call on = absurd (false≢true on)
+step-builds process (trap cause value) on = refl
 
 pub moves-builds : (m : Machine) → moves_on m ≡ true → is_built m ≡ true
-moves-builds (running state program_break first_break) on = step-builds state program_break first_break (user_step state) on
+moves-builds (running process) on = step-builds process (user_step process.state) on
 moves-builds (dying text status) on = refl
 moves-builds (ended status) on = refl
 
@@ -142,7 +142,7 @@ StandsAt-kept first w mid new {input' = input'} {console' = console'} {tree' = t
 
 -- a machine with a status has ended with it
 pub ended-by-status : (m : Machine) (status : ℕ) → status_of m ≡ Some status → m ≡ ended status
-ended-by-status (running state program_break first_break) status h = cc
+ended-by-status (running process) status h = cc
 ended-by-status (dying text s) status h = cc
 ended-by-status (ended s) status h = cc
 
@@ -151,20 +151,20 @@ pub true-unless : (b : Bool) → (b ≡ false → ⊥) → b ≡ true
 true-unless true h = refl
 true-unless false h = absurd (h refl)
 
-call-console : (state : UserState) (program_break first_break : ℕ) (w : World) (c : Call) → (after_call state program_break first_break w c).world.console ≡ w.console ++ call_puts c
-call-console state program_break first_break w (replies reply) = refl
-call-console state program_break first_break w (breaks moved) = sym (append-nil w.console)
-call-console state program_break first_break w (exits status) = sym (append-nil w.console)
-call-console state program_break first_break w unbuilt = sym (append-nil w.console)
+call-console : (process : Process) (w : World) (c : Call) → (after_call process w c).world.console ≡ w.console ++ call_puts c
+call-console process w (replies reply) = refl
+call-console process w (breaks moved) = sym (append-nil w.console)
+call-console process w (exits status) = sym (append-nil w.console)
+call-console process w unbuilt = sym (append-nil w.console)
 
-user-console : (state : UserState) (program_break first_break : ℕ) (w : World) (u : UserStep) → (after_step state program_break first_break w u).world.console ≡ w.console ++ user_puts state program_break first_break u
-user-console state program_break first_break w (next moved) = sym (append-nil w.console)
-user-console state program_break first_break w call = call-console state program_break first_break w (call_of state program_break first_break)
-user-console state program_break first_break w (trap cause value) = sym (append-nil w.console)
+user-console : (process : Process) (w : World) (u : UserStep) → (after_step process w u).world.console ≡ w.console ++ user_puts process u
+user-console process w (next moved) = sym (append-nil w.console)
+user-console process w call = call-console process w (call_of process)
+user-console process w (trap cause value) = sym (append-nil w.console)
 
 -- a direct step puts the machine's bytes behind those on the console
 step-console : (m : Machine) (w : World) → (machine_step m w).world.console ≡ w.console ++ step_puts m
-step-console (running state program_break first_break) w = user-console state program_break first_break w (user_step state)
+step-console (running process) w = user-console process w (user_step process.state)
 step-console (dying [] status) w = sym (append-nil w.console)
 step-console (dying (byte ∷ text) status) w = refl
 step-console (ended status) w = sym (append-nil w.console)

@@ -2,9 +2,10 @@
 use Rattle.std.proofs.Common.{◌≡◌, ◌≢◌, ◌≤◌, ◌<◌, ◌+◌, ℕ, zero, suc, true, ap, sym, subst, ◌∙◌, refl, inl, inr, arith}
 use Rattle.std.proofs.Math.Nat.{eq-or-lt_of_le}
 use Rattle.std.proofs.lemmas.Bool.{false≢true}
-use Rattle.plain_machine.specs.UserStep.{UserState, UserStep, next, call, trap, user_step, made, Stays, moves, state_after, walked, walked-zero, walked-next}
+use Rattle.plain_machine.specs.UserStep.{UserState, UserStep, next, call, trap, user_step, step_of, Stays, moves, state_after, walked, walked-zero, walked-next}
 use Rattle.plain_machine.specs.declared.cpu.Outcome.{Outcome}
 use Rattle.plain_machine.specs.declared.cpu.Outcome.TheVariants.{Moved, Called, Trapped}
+use Rattle.plain_machine.specs.CallTable.{Process}
 use Rattle.plain_machine.specs.Direct.{World, Machine, DirectState, running, after_step, in_world, direct_step, direct_after, moves_on}
 
 -- one step more leads on
@@ -22,37 +23,43 @@ walk-each n first mid new at step before k low =
     elim (eq-or-lt_of_le up) [ inl last ↦ subst (λ (j : ℕ). moves (user_step (walked j first)) ≡ true) (sym last) here | inr below ↦ before k below ]
 
 -- a user step that moves on is a direct step that moves on
-moved-on : (state : UserState) (program_break first_break : ℕ) (w : World) (u : UserStep) → moves u ≡ true
-    → after_step state program_break first_break w u ≡ record { machine = running (state_after u state) program_break first_break; world = w }
-moved-on state program_break first_break w (next moved) on = refl
-moved-on state program_break first_break w call on = absurd (false≢true on)
-moved-on state program_break first_break w (trap cause value) on = absurd (false≢true on)
+moved-on : (process : Process) (w : World) (u : UserStep) → moves u ≡ true
+    → after_step process w u ≡ in_world (running (record process { state = state_after u process.state })) w
+moved-on process w (next moved) on = refl
+moved-on process w call on = absurd (false≢true on)
+moved-on process w (trap cause value) on = absurd (false≢true on)
 
 -- so many user steps that move on are so many direct steps
-running-direct : (first : UserState) (program_break first_break : ℕ) (w : World) (n : ℕ) → ((k : ℕ) → k < n → moves (user_step (walked k first)) ≡ true)
-    → direct_after n (in_world (running first program_break first_break) w) ≡ in_world (running (walked n first) program_break first_break) w
+running-direct : (first : Process) (w : World) (n : ℕ) → ((k : ℕ) → k < n → moves (user_step (walked k first.state)) ≡ true)
+    → direct_after n (in_world (running first) w) ≡ in_world (running (record first { state = walked n first.state })) w
 unfolding direct_after walked
-running-direct first program_break first_break w zero each = refl
-running-direct first program_break first_break w (suc n) each =
-    let rest = running-direct first program_break first_break w n (λ k low. each k (omega arith)) in
-    ap direct_step rest ∙ moved-on (walked n first) program_break first_break w (user_step (walked n first)) (each n (omega arith))
+running-direct first w zero each = refl
+running-direct first w (suc n) each =
+    let rest = running-direct first w n (λ k low. each k (omega arith)) in
+    let state : UserState = walked n first.state in
+    ap direct_step rest ∙ moved-on (record first { state = state }) w (user_step state) (each n (omega arith))
 
 -- a machine that runs, and walks so many user steps
-pub walk-direct : (old new : Machine) (first last : UserState) (program_break first_break n : ℕ)
-    → old ≡ running first program_break first_break → new ≡ running last program_break first_break → last ≡ walked n first
-    → ((k : ℕ) → k < n → moves (user_step (walked k first)) ≡ true)
+pub walk-direct : (old new : Machine) (first : Process) (state final : UserState) (n : ℕ)
+    → final ≡ walked n state → ((k : ℕ) → k < n → moves (user_step (walked k state)) ≡ true)
+    → old ≡ running first → first.state ≡ state → new ≡ running (record first { state = final })
     → (w : World) → direct_after n (in_world old w) ≡ in_world new w
-walk-direct old new first last program_break first_break n from to at each w =
-    ap (λ (m : Machine). direct_after n (in_world m w)) from ∙ running-direct first program_break first_break w n each
-    ∙ sym (ap (λ (m : Machine). in_world m w) to ∙ ap (λ s. in_world (running s program_break first_break) w) at)
+walk-direct old new first state final n at each from begins to w =
+    let on : (k : ℕ) → k < n → moves (user_step (walked k first.state)) ≡ true = λ k low. rw begins (each k low) in
+    let reached : (record first { state = walked n first.state }) ≡ (record first { state = final }) =
+    ap (λ s. record first { state = walked n s }) begins ∙ ap (λ s. record first { state = s }) (sym at) in
+    ap (λ (m : Machine). direct_after n (in_world m w)) from ∙ running-direct first w n on
+    ∙ ap (λ p. in_world (running p) w) reached ∙ sym (ap (λ (m : Machine). in_world m w) to)
 
 -- and each of its steps moves on
-pub walk-moves : (old : Machine) (first : UserState) (program_break first_break n : ℕ)
-    → old ≡ running first program_break first_break → ((k : ℕ) → k < n → moves (user_step (walked k first)) ≡ true)
+pub walk-moves : (old : Machine) (first : Process) (state final : UserState) (n : ℕ)
+    → final ≡ walked n state → ((k : ℕ) → k < n → moves (user_step (walked k state)) ≡ true)
+    → old ≡ running first → first.state ≡ state
     → (w : World) (k : ℕ) → k < n → moves_on (direct_after k (in_world old w)).machine ≡ true
-walk-moves old first program_break first_break n from each w k low =
-    let there = running-direct first program_break first_break w k (λ j below. each j (omega arith)) in
-    ap (λ (m : Machine). moves_on (direct_after k (in_world m w)).machine) from ∙ ap (λ (s : DirectState). moves_on s.machine) there ∙ each k low
+walk-moves old first state final n at each from begins w k low =
+    let on : (j : ℕ) → j < n → moves (user_step (walked j first.state)) ≡ true = λ j below. rw begins (each j below) in
+    let there = running-direct first w k (λ j below. on j (omega arith)) in
+    ap (λ (m : Machine). moves_on (direct_after k (in_world m w)).machine) from ∙ ap (λ (s : DirectState). moves_on s.machine) there ∙ on k low
 
 -- a user step that moves on leads to the state after it
 next-after : (u : UserStep) (state : UserState) → moves u ≡ true → u ≡ next (state_after u state)
@@ -74,14 +81,14 @@ no-step old new count at few = let none : count ≡ 0 = omega (arith, few) in at
 
 -- a walk of at most one step does what the user step says
 pub step-of_walk : (old new : UserState) (count : ℕ) (outcome : Outcome) → new ≡ walked count old → ((n : ℕ) → n < count → moves (user_step (walked n old)) ≡ true)
-    → (outcome ≡ Moved → count ≡ 1) → (outcome ≢ Moved → (count < 1) × (user_step new ≡ made outcome new)) → user_step old ≡ made outcome new
+    → (outcome ≡ Moved → count ≡ 1) → (outcome ≢ Moved → (count < 1) × (user_step new ≡ step_of outcome new)) → user_step old ≡ step_of outcome new
 step-of_walk old new count Moved at each moved stopped = one-step old new count at each (moved refl)
 step-of_walk old new count Called at each moved stopped = ap user_step (sym (no-step old new count at (stopped (λ is. cc)).0)) ∙ (stopped (λ is. cc)).1
-step-of_walk old new count (Trapped cause value) at each moved stopped = ap user_step (sym (no-step old new count at (stopped (λ is. cc)).0)) ∙ (stopped (λ is. cc)).1
+step-of_walk old new count (Trapped trapped) at each moved stopped = ap user_step (sym (no-step old new count at (stopped (λ is. cc)).0)) ∙ (stopped (λ is. cc)).1
 
 -- and leaves the state where it did not move on
 pub stays-of_walk : (old new : UserState) (count : ℕ) (outcome : Outcome) → new ≡ walked count old
-    → (outcome ≢ Moved → (count < 1) × (user_step new ≡ made outcome new)) → Stays outcome old new
+    → (outcome ≢ Moved → (count < 1) × (user_step new ≡ step_of outcome new)) → Stays outcome old new
 stays-of_walk old new count Moved at stopped = tt
 stays-of_walk old new count Called at stopped = no-step old new count at (stopped (λ is. cc)).0
-stays-of_walk old new count (Trapped cause value) at stopped = no-step old new count at (stopped (λ is. cc)).0
+stays-of_walk old new count (Trapped trapped) at stopped = no-step old new count at (stopped (λ is. cc)).0

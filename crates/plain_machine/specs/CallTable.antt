@@ -2,12 +2,19 @@
 use Rattle.std.specs.Prelude.{ℕ, ◌+◌, ◌-◌, ◌%◌, ◌^◌, ◌==◌, ◌&&◌, ◌||◌, not, min, nat_le, if◌then◌else◌, Bool, List, [], ◌∷◌, take, drop}
 use Rattle.std.specs.List.{list_any}
 use Rattle.fe_base.specs.ErrorNumbers.{error_number}
+use Rattle.fe_base.specs.Limits.{transfer_limit, greatest_break}
 use Rattle.fe_base.specs.MemoryMap.{user_start, user_end}
 use Rattle.fe_base.specs.declared.error_numbers.ErrNo.{ErrNo}
 use Rattle.fe_base.specs.declared.error_numbers.ErrNo.TheVariants.{EFAULT, EBADF, ENOSYS}
 use Rattle.plain_machine.specs.UserStep.{UserState, register}
 use Rattle.plain_machine.specs.declared.calls.Service.{Service}
 use Rattle.plain_machine.specs.declared.calls.Service.TheVariants.{Write, Break, Exit, Unbuilt, Unknown}
+
+-- a program as its calls find it: its user state, its break, and the break that it had first
+pub record Process : Type 0 where
+  pub state : UserState
+  pub program_break : ℕ
+  pub first_break : ℕ
 
 -- what a call that returns answers in a0, and the bytes that it puts on the console
 pub record Reply : Type 0 where
@@ -29,10 +36,10 @@ unbuilt_numbers = 34 ∷ 35 ∷ 46 ∷ 48 ∷ 56 ∷ 57 ∷ 62 ∷ 63 ∷ 67 ∷
 unfoldable pub service_of : ℕ → Service
 service_of number =
     if number == 64 then Write
-    else (if number == 93 || number == 94 then Exit
-    else (if number == 214 then Break
-    else (if list_any (λ n. n == number) unbuilt_numbers then Unbuilt
-    else Unknown)))
+    else if number == 93 || number == 94 then Exit
+    else if number == 214 then Break
+    else if list_any (λ n. n == number) unbuilt_numbers then Unbuilt
+    else Unknown
 
 -- the number of the call, in a7
 abbrev pub call_number : UserState → ℕ
@@ -54,33 +61,29 @@ is_buffer buffer count = nat_le user_start buffer && nat_le buffer user_end && n
 abbrev pub is_console : ℕ → Bool
 is_console number = number == 1 || number == 2
 
--- the count of a write, lowered to 1,048,576 before anything is tested
+-- the count of a write, lowered to what one call moves at most before anything is tested
 abbrev pub write_count : UserState → ℕ
-write_count state = min (argument state 2) 1048576
+write_count state = min (argument state 2) transfer_limit
 
 -- write of open number a0, buffer a1, count a2: EFAULT, then EBADF by the low 32 bits of the number; else the buffer is put
 abbrev pub write_reply : UserState → Reply
 write_reply state =
     if not (is_buffer (argument state 1) (write_count state)) then refusal EFAULT
-    else (if not (is_console (argument state 0 % 2 ^ 32)) then refusal EBADF
-    else record { answer = write_count state; puts = take (write_count state) (drop (argument state 1 - user_start) state.user) })
-
--- the greatest break, 1 MiB below the stack's top
-abbrev pub greatest_break : ℕ
-greatest_break = 0xf00000
+    else if not (is_console (argument state 0 % 2 ^ 32)) then refusal EBADF
+    else record { answer = write_count state; puts = take (write_count state) (drop (argument state 1 - user_start) state.user) }
 
 -- the break that brk leaves: the one that is asked for, if it is neither below the first break nor above the greatest; else the one before
-abbrev pub new_break : ℕ → ℕ → ℕ → ℕ
-new_break program_break first_break asked = if nat_le first_break asked && nat_le asked greatest_break then asked else program_break
+abbrev pub new_break : Process → ℕ → ℕ
+new_break process asked = if nat_le process.first_break asked && nat_le asked greatest_break then asked else process.program_break
 
 -- what a call of the table does; a status is the low 8 bits of a0, and a number outside the table is refused
-abbrev pub call_for : Service → UserState → ℕ → ℕ → Call
-call_for Write state program_break first_break = replies (write_reply state)
-call_for Break state program_break first_break = breaks (new_break program_break first_break (argument state 0))
-call_for Exit state program_break first_break = exits (argument state 0 % 256)
-call_for Unbuilt state program_break first_break = unbuilt
-call_for Unknown state program_break first_break = replies (refusal ENOSYS)
+abbrev pub call_for : Service → Process → Call
+call_for Write process = replies (write_reply process.state)
+call_for Break process = breaks (new_break process (argument process.state 0))
+call_for Exit process = exits (argument process.state 0 % 256)
+call_for Unbuilt process = unbuilt
+call_for Unknown process = replies (refusal ENOSYS)
 
--- the call of this state, with its break and its first break
-abbrev pub call_of : UserState → ℕ → ℕ → Call
-call_of state program_break first_break = call_for (service_of (call_number state)) state program_break first_break
+-- the call that a program stands at
+abbrev pub call_of : Process → Call
+call_of process = call_for (service_of (call_number process.state)) process

@@ -4,13 +4,17 @@ use Rattle.std.proofs.Common.{zero, suc, add-one, ap}
 use Rattle.elf_loader.specs.MainVars.{main_vars_text}
 use Rattle.elf_loader.specs.Segment.{Segment}
 use Rattle.elf_loader.specs.declared.image.Image.{Image}
+use Rattle.fe_base.specs.Limits.{stack_top}
 use Rattle.fe_base.specs.MemoryMap.{user_start}
 use Rattle.folder_tree.specs.Tree.{Tree}
 use Rattle.guest_memory.specs.Bus.{user_size}
 use Rattle.guest_memory.specs.Memory.{zeros, with_part}
+use Rattle.rv_alu.specs.Causes.{cause_number}
 use Rattle.rv_alu.specs.Effects.{put}
+use Rattle.rv_alu.specs.declared.causes.Cause.{Cause}
+use Rattle.rv_alu.specs.declared.causes.Cause.TheVariants.{Illegal}
 use Rattle.plain_machine.specs.UserStep.{UserState, UserStep, next, call, trap, user_step, moves}
-use Rattle.plain_machine.specs.CallTable.{Call, replies, breaks, exits, unbuilt, call_of}
+use Rattle.plain_machine.specs.CallTable.{Process, Call, replies, breaks, exits, unbuilt, call_of}
 use Rattle.plain_machine.specs.Messages.{is_counter_access, counter_text, trap_text}
 
 -- what a run works on: the input that is left, the bytes on the console, and the tree of files
@@ -19,9 +23,9 @@ pub record World : Type 0 where
   pub console : List ℕ
   pub tree : Tree
 
--- a machine runs, with its user state, its break and its first break; or it is dying, with the text that is left of its last words and its status; or it has ended with a status
+-- a machine runs a program; or it is dying, with the text that is left of its last words and its status; or it has ended with a status
 pub data Machine : Type 0 where
-  running : UserState → ℕ → ℕ → Machine
+  running : Process → Machine
   dying : List ℕ → ℕ → Machine
   ended : ℕ → Machine
 
@@ -38,29 +42,40 @@ in_world machine w = record { machine = machine; world = w }
 abbrev pub answered : UserState → ℕ → UserState
 answered state answer = record state { pc = (state.pc + 4) % 2 ^ 64; registers = put state.registers 10 answer }
 
--- what a call leaves: a reply's answer and its bytes on the console, the break as the answer, or the end
-abbrev pub after_call : UserState → ℕ → ℕ → World → Call → DirectState
-after_call state program_break first_break w (replies reply) = record { machine = running (answered state reply.answer) program_break first_break; world = record w { console = w.console ++ reply.puts } }
-after_call state program_break first_break w (breaks moved) = record { machine = running (answered state moved) moved first_break; world = w }
-after_call state program_break first_break w (exits status) = record { machine = ended status; world = w }
-after_call state program_break first_break w unbuilt = record { machine = running state program_break first_break; world = w }
+-- a program that goes on behind its call, with its answer
+abbrev pub replied : Process → ℕ → Process
+replied process answer = record process { state = answered process.state answer }
 
--- what a trap leaves: the last words, with status 124 where an illegal instruction asks for a counter, else with 128 and the cause
-abbrev pub after_trap : ℕ → ℕ → ℕ → Machine
-after_trap pc cause value = if cause == 2 && is_counter_access value then dying (counter_text pc) 124 else dying (trap_text cause pc value) (128 + cause)
+-- a program that goes on behind brk, which answers the break that it leaves
+abbrev pub with_break : Process → ℕ → Process
+with_break process moved = record process { state = answered process.state moved; program_break = moved }
+
+-- what a call leaves: a reply's answer and its bytes on the console, the break as the answer, or the end
+abbrev pub after_call : Process → World → Call → DirectState
+after_call process w (replies reply) = in_world (running (replied process reply.answer)) (record w { console = w.console ++ reply.puts })
+after_call process w (breaks moved) = in_world (running (with_break process moved)) w
+after_call process w (exits status) = in_world (ended status) w
+after_call process w unbuilt = in_world (running process) w
+
+-- what a trap leaves: the last words, with status 124 where an illegal instruction asks for a counter, else with 128 and the
+-- cause's number
+abbrev pub after_trap : ℕ → Cause → ℕ → Machine
+after_trap pc cause value =
+    if cause_number cause == cause_number Illegal && is_counter_access value then dying (counter_text pc) 124
+    else dying (trap_text (cause_number cause) pc value) (128 + cause_number cause)
 
 -- what a user step leaves: its next state, what its call leaves, or what its trap leaves
-abbrev pub after_step : UserState → ℕ → ℕ → World → UserStep → DirectState
-after_step state program_break first_break w (next moved) = record { machine = running moved program_break first_break; world = w }
-after_step state program_break first_break w call = after_call state program_break first_break w (call_of state program_break first_break)
-after_step state program_break first_break w (trap cause value) = record { machine = after_trap state.pc cause value; world = w }
+abbrev pub after_step : Process → World → UserStep → DirectState
+after_step process w (next moved) = in_world (running (record process { state = moved })) w
+after_step process w call = after_call process w (call_of process)
+after_step process w (trap cause value) = in_world (after_trap process.state.pc cause value) w
 
 -- one step of a machine over a world: a user step; one byte of the last words, or the end behind them; one that has ended stays
 abbrev pub machine_step : Machine → World → DirectState
-machine_step (running state program_break first_break) w = after_step state program_break first_break w (user_step state)
-machine_step (dying [] status) w = record { machine = ended status; world = w }
-machine_step (dying (byte ∷ text) status) w = record { machine = dying text status; world = record w { console = w.console ++ byte ∷ [] } }
-machine_step (ended status) w = record { machine = ended status; world = w }
+machine_step (running process) w = after_step process w (user_step process.state)
+machine_step (dying [] status) w = in_world (ended status) w
+machine_step (dying (byte ∷ text) status) w = in_world (dying text status) (record w { console = w.console ++ byte ∷ [] })
+machine_step (ended status) w = in_world (ended status) w
 
 -- the direct step
 abbrev pub direct_step : DirectState → DirectState
@@ -81,10 +96,6 @@ pub direct_after-next : (n : ℕ) (s : DirectState) → direct_after (n + 1) s �
 unfolding direct_after
 direct_after-next n s = ap (λ k. direct_after k s) (add-one n)
 
--- the first address behind what segments may fill: the stack ends here, and the main vars begin
-abbrev pub stack_top : ℕ
-stack_top = 0x1000000
-
 -- the user bytes with these in their place from an address
 abbrev pub placed : List ℕ → ℕ → List ℕ → List ℕ
 placed user at bytes = with_part user (at - user_start) bytes
@@ -104,7 +115,8 @@ first_state image args = record { pc = image.entry; registers = slice_set (zeros
 
 -- the machine of an image and its arguments before its first step; its break is its first break
 abbrev pub first_machine : Image → List (List ℕ) → Machine
-first_machine image args = running (first_state image args) image.first_break image.first_break
+first_machine image args =
+    running (record { state = first_state image args; program_break = image.first_break; first_break = image.first_break })
 
 -- the direct start, from a world
 abbrev pub direct_start : Image → List (List ℕ) → World → DirectState
@@ -118,26 +130,26 @@ is_built_call (exits status) = true
 is_built_call unbuilt = false
 
 -- a user step is built unless it is a call that is not
-abbrev pub is_built_step : UserState → ℕ → ℕ → UserStep → Bool
-is_built_step state program_break first_break (next moved) = true
-is_built_step state program_break first_break call = is_built_call (call_of state program_break first_break)
-is_built_step state program_break first_break (trap cause value) = true
+abbrev pub is_built_step : Process → UserStep → Bool
+is_built_step process (next moved) = true
+is_built_step process call = is_built_call (call_of process)
+is_built_step process (trap cause value) = true
 
 -- the machine's next direct step is built
 abbrev pub is_built : Machine → Bool
-is_built (running state program_break first_break) = is_built_step state program_break first_break (user_step state)
+is_built (running process) = is_built_step process (user_step process.state)
 is_built (dying text status) = true
 is_built (ended status) = true
 
 -- the machine's next direct step moves its program on and does nothing else
 abbrev pub moves_on : Machine → Bool
-moves_on (running state program_break first_break) = moves (user_step state)
+moves_on (running process) = moves (user_step process.state)
 moves_on (dying text status) = false
 moves_on (ended status) = false
 
 -- the status that a machine has ended with, if it has ended
 abbrev pub status_of : Machine → Option ℕ
-status_of (running state program_break first_break) = None
+status_of (running process) = None
 status_of (dying text status) = None
 status_of (ended status) = Some status
 
@@ -149,14 +161,14 @@ call_puts (exits status) = []
 call_puts unbuilt = []
 
 -- the bytes that a user step puts on the console
-abbrev pub user_puts : UserState → ℕ → ℕ → UserStep → List ℕ
-user_puts state program_break first_break (next moved) = []
-user_puts state program_break first_break call = call_puts (call_of state program_break first_break)
-user_puts state program_break first_break (trap cause value) = []
+abbrev pub user_puts : Process → UserStep → List ℕ
+user_puts process (next moved) = []
+user_puts process call = call_puts (call_of process)
+user_puts process (trap cause value) = []
 
 -- the bytes that the machine's next direct step puts on the console
 abbrev pub step_puts : Machine → List ℕ
-step_puts (running state program_break first_break) = user_puts state program_break first_break (user_step state)
+step_puts (running process) = user_puts process (user_step process.state)
 step_puts (dying [] status) = []
 step_puts (dying (byte ∷ text) status) = byte ∷ []
 step_puts (ended status) = []

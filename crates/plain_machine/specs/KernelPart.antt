@@ -1,11 +1,11 @@
 -- The kernel part of the call table: what comes of a call before the host is asked. The call's number is a7, its arguments are a0 to a5 (Linux, include/uapi/asm-generic/unistd.h).
 use Rattle.std.specs.Prelude.{ℕ, zero, suc, ◌+◌, ◌-◌, ◌%◌, ◌^◌, ◌==◌, nat_lt, Bool, if◌then◌else◌, List, [], ◌∷◌, slice_index}
+use Rattle.fe_base.specs.Limits.{transfer_limit, guest_path_limit, greatest_break}
 use Rattle.fe_base.specs.MemoryMap.{user_start, user_end}
 use Rattle.fe_base.specs.ErrorNumbers.{error_number}
 use Rattle.fe_base.specs.declared.error_numbers.ErrNo.{ErrNo}
 use Rattle.fe_base.specs.declared.error_numbers.ErrNo.TheVariants.{EFAULT, ENOSYS, ENAMETOOLONG}
 use Rattle.plain_machine.specs.UserStep.{is_user}
-use Rattle.plain_machine.specs.CallTable.{greatest_break}
 
 -- the call gets this answer at once, or posts this request to the host, or has a path, which is scanned first
 pub data Part : Type 0 where
@@ -31,7 +31,7 @@ in_area buffer count part =
 
 -- the most bytes that one call moves
 abbrev pub greatest_count : ℕ
-greatest_count = 1048576
+greatest_count = transfer_limit
 
 -- the count of a buffer, lowered to the most that one call moves
 abbrev pub lowered : ℕ → (ℕ → Part) → Part
@@ -72,7 +72,7 @@ pub data Scanned : Type 0 where
 
 -- the most bytes of a path, NUL included
 abbrev pub greatest_path : ℕ
-greatest_path = 4096
+greatest_path = guest_path_limit
 
 -- the user byte at an address of the user area
 abbrev pub user_byte : List ℕ → ℕ → ℕ

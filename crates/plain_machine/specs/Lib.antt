@@ -4,3 +4,4 @@ pub mod KernelPart
 pub mod Messages
 pub mod Direct
 pub mod Machines
+pub mod Laws

@@ -1,22 +1,22 @@
 -- How the machine's parts stand for a direct state, and which faults a step can meet.
 use Rattle.std.specs.Prelude.{◌≡◌, ℕ, ⊤, List, [], ◌∷◌, Option, Some, None}
-use Rattle.plain_machine.specs.UserStep.{UserState}
+use Rattle.plain_machine.specs.CallTable.{Process}
 use Rattle.plain_machine.specs.Direct.{World, DirectState, Machine, running, dying, ended}
 use Rattle.plain_machine.specs.declared.machine.Phase.{Phase}
 use Rattle.plain_machine.specs.declared.machine.Phase.TheVariants.{Running, Dying, Ended}
 use Rattle.plain_machine.specs.declared.plain.PlainFault.{PlainFault}
 use Rattle.plain_machine.specs.declared.plain.PlainFault.TheVariants.{FileFault, InputFault, ConsoleFault, OutOfMemory, NotBuilt}
 
--- the machine of a user state, a break and a first break, by its phase
-abbrev pub machine_of : UserState → ℕ → ℕ → Phase → Machine
-machine_of state program_break first_break Running = running state program_break first_break
-machine_of state program_break first_break (Dying text status) = dying text status
-machine_of state program_break first_break (Ended status) = ended status
+-- the machine of a program, by its phase
+abbrev pub machine_of : Process → Phase → Machine
+machine_of process Running = running process
+machine_of process (Dying text status) = dying text status
+machine_of process (Ended status) = ended status
 
--- the machine that a call leaves: it runs on, or has ended with a status
-abbrev pub machine_when : UserState → ℕ → ℕ → Option ℕ → Machine
-machine_when state program_break first_break None = running state program_break first_break
-machine_when state program_break first_break (Some status) = ended status
+-- the machine that a call leaves: its program runs on, or has ended with a status
+abbrev pub machine_when : Process → Option ℕ → Machine
+machine_when process None = running process
+machine_when process (Some status) = ended status
 
 -- a text begins with this byte, or there is none
 abbrev pub BeginsWith : List ℕ → List ℕ → Option ℕ → Type 0

@@ -1,14 +1,9 @@
 -- The last words of a program that a trap ends.
-use Rattle.std.specs.Prelude.{ℕ, zero, suc, ◌/◌, ◌%◌, ◌==◌, ◌&&◌, not, nat_le, Bool, false, List, [], ◌∷◌, ◌++◌, codes}
-use Rattle.std.specs.Fmt.{digit_glyph}
+use Rattle.std.specs.Prelude.{ℕ, ◌==◌, ◌&&◌, not, nat_le, Bool, List, ◌++◌, codes}
+use Rattle.fe_base.specs.Digits.{hexadecimal}
 use Rattle.rv_decode.specs.Fields.{opcode, funct3, csr_at}
 
--- so many hexadecimal digits of a number, the lowest last, in lower case
-unfoldable pub hexadecimal : ℕ → ℕ → List ℕ
-hexadecimal zero number = []
-hexadecimal (suc count) number = hexadecimal count (number / 16) ++ digit_glyph false (number % 16) ∷ []
-
--- a trap of this cause at pc, with its value
+-- a trap at pc of a cause, by its number, and a value
 abbrev pub trap_text : ℕ → ℕ → ℕ → List ℕ
 trap_text cause pc value =
     codes "pk: trap " ++ (hexadecimal 2 cause ++ (codes " at " ++ (hexadecimal 16 pc ++ (codes " value " ++ (hexadecimal 16 value ++ codes "\n")))))

@@ -1,17 +1,16 @@
-// The calls of the table, done over a console.
+// A program with its break, and the calls of the table, done over a console.
 ghost use Rattle.std.specs.Prelude.{◌≡◌, ◌≢◌, ◌≤◌, ◌++◌, [], ℕ, List, Some, IsErrOf, IfErr, IsOk, IfOk, OnOk, OnErr, length, false, ◌↔◌};
 ghost use Rattle.fe_base.specs.Outside.{capacity, HasCause, PutSuits, Rose};
-ghost use Rattle.plain_machine.specs.CallTable.{write_reply, call_of, service_of, new_break};
+ghost use Rattle.plain_machine.specs.CallTable as spec;
+ghost use Rattle.plain_machine.specs.CallTable.{write_reply, call_of, service_of};
 ghost use Rattle.plain_machine.specs.Direct.{World, after_call, call_puts, is_built_call};
 ghost use Rattle.plain_machine.specs.Machines.{machine_when, Reaches, IsPossible};
 
 use crate::PlainFault;
 use crate::cpu::Cpu;
+use fe_base::limits::{GREATEST_BREAK, TRANSFER_LIMIT};
 use fe_base::{ErrNo, Failed, Sink};
-
-const MAX_COUNT: u64 = 1_048_576;
-
-const GREATEST_BREAK: u64 = 0xf0_0000;
+use std::marker::Model;
 
 /// What a call's number asks for.
 #[derive(Clone, Copy)]
@@ -26,6 +25,22 @@ pub enum Service {
     Unbuilt,
     /// A number outside the table.
     Unknown,
+}
+
+/// A program, its break, and the break that it had first.
+#[derive(Drop)]
+pub struct Process {
+    pub cpu: Cpu,
+    pub program_break: u64,
+    pub first_break: u64,
+}
+
+impl Model for Process {
+    ghost use Rattle.plain_machine.specs.CallTable.{Process as DirectProcess};
+
+    ghost Value = { DirectProcess };
+
+    ghost view = { λ p. record { state = p.cpu; program_break = p.program_break; first_break = p.first_break } };
 }
 
 // The table of calls by number.
@@ -57,7 +72,7 @@ fn write<C: Sink>(cpu: &Cpu, console: &mut C) -> Result<u64, Failed>
 {
     let number = cpu.register(10) % (1 << 32);
     let buffer = cpu.register(11);
-    let count = cpu.register(12).min(MAX_COUNT);
+    let count = cpu.register(12).min(TRANSFER_LIMIT);
     let Some(bytes) = cpu.bytes(buffer, count) else {
         return Ok(ErrNo::EFAULT.result());
     };
@@ -72,51 +87,45 @@ fn write<C: Sink>(cpu: &Cpu, console: &mut C) -> Result<u64, Failed>
 }
 
 // The break that brk leaves.
-fn moved_break(program_break: u64, first_break: u64, asked: u64) -> u64
-    ensures { result ≡ new_break program_break first_break asked }
+fn moved_break(process: &Process, asked: u64) -> u64
+    ensures { result ≡ spec.new_break process.now asked }
 {
-    if first_break <= asked && asked <= GREATEST_BREAK {
+    if process.first_break <= asked && asked <= GREATEST_BREAK {
         asked
     } else {
-        program_break
+        process.program_break
     }
 }
 
-/// The call that the machine stands at: the status where it ends the program.
-pub fn call<C: Sink>(
-    cpu: &mut Cpu,
-    program_break: &mut u64,
-    first_break: u64,
-    console: &mut C,
-) -> Result<Option<u8>, PlainFault>
+/// The call that the program stands at: the status where it ends the program.
+pub fn call<C: Sink>(process: &mut Process, console: &mut C) -> Result<Option<u8>, PlainFault>
     ensures call { IfOk result (λ status. (w : World) → C.held console.old ≡ Some w.console
-        → Reaches (after_call cpu.old program_break.old first_break w (call_of cpu.old program_break.old first_break)) w (machine_when cpu.new program_break.new first_break status) (C.held console.new)) }
-    ensures not_built { IsErrOf result PlainFault.NotBuilt ↔ (is_built_call (call_of cpu.old program_break.old first_break) ≡ false) }
+        → Reaches (after_call process.old w (call_of process.old)) w (machine_when process.new status) (C.held console.new)) }
+    ensures not_built { IsErrOf result PlainFault.NotBuilt ↔ (is_built_call (call_of process.old) ≡ false) }
     ensures possible { IfErr result IsPossible }
-    ensures kept { OnErr result (cpu.new ≡ cpu.old) }
-    ensures break_kept { OnErr result (program_break.new ≡ program_break.old) }
+    ensures kept { OnErr result (process.new ≡ process.old) }
     ensures told { OnErr result ((held : List ℕ) → C.held console.old ≡ Some held → C.held console.new ≡ Some held) }
-    ensures asked { IsErrOf result PlainFault.ConsoleFault → call_puts (call_of cpu.old program_break.old first_break) ≢ [] }
-    ensures quiet { call_puts (call_of cpu.old program_break.old first_break) ≡ [] → console.new ≡ console.old }
+    ensures asked { IsErrOf result PlainFault.ConsoleFault → call_puts (call_of process.old) ≢ [] }
+    ensures quiet { call_puts (call_of process.old) ≡ [] → console.new ≡ console.old }
     ensures later { C.faults console.old ≤ C.faults console.new }
     ensures fault { IsErrOf result PlainFault.ConsoleFault → Rose (C.faults console.old) (C.faults console.new) }
     ensures steady { C.steady console.old → OnOk result (C.steady console.new) }
     ensures capacity { capacity (C.held console.new) (C.room console.new) ≡ capacity (C.held console.old) (C.room console.old) }
-    ensures suits { C.steady console.old → PutSuits (C.room console.old) (length (call_puts (call_of cpu.old program_break.old first_break)))
+    ensures suits { C.steady console.old → PutSuits (C.room console.old) (length (call_puts (call_of process.old)))
         → IsErrOf result PlainFault.ConsoleFault → ⊥ }
 {
-    match service_for(cpu.register(17)) {
+    match service_for(process.cpu.register(17)) {
         Service::Write => {
-            let answer = write(cpu, console).map_err(|_| PlainFault::ConsoleFault)?;
-            cpu.answer(answer);
+            let answer = write(&process.cpu, console).map_err(|_| PlainFault::ConsoleFault)?;
+            process.cpu.answer(answer);
         }
         Service::Break => {
-            *program_break = moved_break(*program_break, first_break, cpu.register(10));
-            cpu.answer(*program_break);
+            process.program_break = moved_break(process, process.cpu.register(10));
+            process.cpu.answer(process.program_break);
         }
-        Service::Exit => return Ok(Some((cpu.register(10) % 256) as u8)),
+        Service::Exit => return Ok(Some((process.cpu.register(10) % 256) as u8)),
         Service::Unbuilt => return Err(PlainFault::NotBuilt),
-        Service::Unknown => cpu.answer(ErrNo::ENOSYS.result()),
+        Service::Unknown => process.cpu.answer(ErrNo::ENOSYS.result()),
     }
     Ok(None)
 }

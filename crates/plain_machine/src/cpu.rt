@@ -7,47 +7,13 @@ ghost use Rattle.rv_alu.specs.Effects.{IsInRange};
 ghost use Rattle.plain_machine.specs.CallTable.{is_buffer};
 ghost use Rattle.plain_machine.specs.Direct.{answered};
 ghost use Rattle.plain_machine.specs.UserStep as spec;
-ghost use Rattle.plain_machine.specs.UserStep.{user_step, carried, cause_number, made, Stays, walked, moves};
+ghost use Rattle.plain_machine.specs.UserStep.{user_step, load_step, store_step, effect_step, step_of, Stays, walked, moves};
 
 use fe_base::memory_map::{USER_END, USER_START};
 use guest_memory::Bus;
-use rv_alu::{Effect, Size, act, loaded, put};
-use rv_decode::Decoder;
+use rv_alu::{Cause, Effect, Size, Trap, act, loaded, put};
+use rv_decode::{Decoder, INSTRUCTION_ALIGNMENT};
 use std::marker::Model;
-
-/// Why a trap is taken.
-#[derive(Clone, Copy)]
-pub enum Cause {
-    /// A jump to an address that is no multiple of 4; the value is that address.
-    Misaligned,
-    /// An instruction with a byte outside the user area; the value is the first such address.
-    FetchAccess,
-    /// A word that is no instruction of a user program; the value is the word.
-    Illegal,
-    /// EBREAK; the value is its address.
-    Breakpoint,
-    /// A load with a byte outside the user area; the value is the first such address.
-    LoadAccess,
-    /// A store with a byte outside the user area; the value is the first such address.
-    StoreAccess,
-}
-
-impl Cause {
-    /// The number that the Privileged ISA gives to the cause (3.1.15, mcause).
-    pub fn number(self) -> u8
-        ensures value { result ≡ cause_number self }
-        ensures small { result < 16 }
-    {
-        match self {
-            Cause::Misaligned => 0,
-            Cause::FetchAccess => 1,
-            Cause::Illegal => 2,
-            Cause::Breakpoint => 3,
-            Cause::LoadAccess => 5,
-            Cause::StoreAccess => 7,
-        }
-    }
-}
 
 /// What a user step did.
 #[derive(Clone, Copy)]
@@ -57,7 +23,7 @@ pub enum Outcome {
     /// It is a system call, which is left to be done; nothing has changed.
     Called,
     /// It is a trap; nothing has changed.
-    Trapped { cause: Cause, value: u64 },
+    Trapped(Trap),
 }
 
 /// pc, the 32 registers, and the bus, of which a user program sees the user area.
@@ -115,9 +81,9 @@ fn outside(at: u64, count: usize) -> Option<u64>
 
 #[inline(always)]
 fn trapped(cause: Cause, value: u64) -> Outcome
-    ensures { result ≡ Outcome.Trapped cause value }
+    ensures { result ≡ Outcome.Trapped (record { cause = cause; value = value }) }
 {
-    Outcome::Trapped { cause, value }
+    Outcome::Trapped(Trap { cause, value })
 }
 
 #[tactic(auto, unfolding(guest_memory::specs::Memory::zeros))]
@@ -183,10 +149,10 @@ impl Cpu {
 
     // A load of this size to a register, with the next instruction at `after`.
     #[inline(always)]
-    #[tactic(auto, unfolding(crate::specs::UserStep::carried, guest_memory::specs::Bus::bus_load))]
+    #[tactic(auto, unfolding(guest_memory::specs::Bus::bus_load))]
     fn load_of(&mut self, size: Size, rd: u8, extends: bool, at: u64, after: u64) -> Outcome
         requires { rd < 32 }
-        ensures step { carried (Effect.Load rd size extends at) 0 after self.old ≡ made result self.new }
+        ensures step { load_step rd size extends at after self.old ≡ step_of result self.new }
         ensures stays { Stays result self.old self.new }
     {
         if let Some(byte) = outside(at, size.bytes()) {
@@ -202,7 +168,7 @@ impl Cpu {
     #[inline(always)]
     fn load(&mut self, size: Size, rd: u8, extends: bool, at: u64, after: u64) -> Outcome
         requires { rd < 32 }
-        ensures step { carried (Effect.Load rd size extends at) 0 after self.old ≡ made result self.new }
+        ensures step { load_step rd size extends at after self.old ≡ step_of result self.new }
         ensures stays { Stays result self.old self.new }
     {
         match size {
@@ -215,9 +181,9 @@ impl Cpu {
 
     // A store of the low bytes of a value, so many as the size says, with the next instruction at `after`.
     #[inline(always)]
-    #[tactic(auto, unfolding(crate::specs::UserStep::carried, guest_memory::specs::Bus::bus_store))]
+    #[tactic(auto, unfolding(guest_memory::specs::Bus::bus_store))]
     fn store_of(&mut self, size: Size, at: u64, value: u64, after: u64) -> Outcome
-        ensures step { carried (Effect.Store size at value) 0 after self.old ≡ made result self.new }
+        ensures step { store_step size at value after self.old ≡ step_of result self.new }
         ensures stays { Stays result self.old self.new }
     {
         if let Some(byte) = outside(at, size.bytes()) {
@@ -231,7 +197,7 @@ impl Cpu {
     // As `store_of`, by a call for each size.
     #[inline(always)]
     fn store(&mut self, size: Size, at: u64, value: u64, after: u64) -> Outcome
-        ensures step { carried (Effect.Store size at value) 0 after self.old ≡ made result self.new }
+        ensures step { store_step size at value after self.old ≡ step_of result self.new }
         ensures stays { Stays result self.old self.new }
     {
         match size {
@@ -244,10 +210,10 @@ impl Cpu {
 
     // An effect of an instruction of these bits, with the next one at `after`.
     #[inline(always)]
-    #[tactic(auto, unfolding(crate::specs::UserStep::carried))]
+    #[tactic(auto, unfolding(crate::specs::UserStep::effect_step))]
     fn carry(&mut self, effect: Effect, bits: u32, after: u64) -> Outcome
         requires { IsInRange effect }
-        ensures step { carried effect bits after self.old ≡ made result self.new }
+        ensures step { effect_step effect bits after self.old ≡ step_of result self.new }
         ensures stays { Stays result self.old self.new }
     {
         match effect {
@@ -257,7 +223,7 @@ impl Cpu {
                 self.pc = after;
             }
             Effect::Jump { rd, target } => {
-                if target % 4 != 0 {
+                if target % INSTRUCTION_ALIGNMENT != 0 {
                     return trapped(Cause::Misaligned, target);
                 }
                 put(&mut self.registers, rd, after);
@@ -283,7 +249,7 @@ impl Cpu {
     #[inline(always)]
     #[tactic(auto, unfolding(guest_memory::specs::Bus::bus_load))]
     fn execute(&mut self) -> Outcome
-        ensures step { user_step self.old ≡ made result self.new }
+        ensures step { user_step self.old ≡ step_of result self.new }
         ensures stays { Stays result self.old self.new }
     {
         if let Some(byte) = outside(self.pc, 4) {
@@ -306,7 +272,7 @@ impl Cpu {
         ensures each { (n : ℕ) → n < result.0 → moves (user_step (walked n self.old)) ≡ true }
         ensures most { result.0 ≤ most }
         ensures moved { result.1 ≡ Outcome.Moved → result.0 ≡ most }
-        ensures stopped { result.1 ≢ Outcome.Moved → (result.0 < most) × (user_step self.new ≡ made result.1 self.new) }
+        ensures stopped { result.1 ≢ Outcome.Moved → (result.0 < most) × (user_step self.new ≡ step_of result.1 self.new) }
     {
         let mut count = 0;
         'steps: while count < most {
@@ -320,7 +286,7 @@ impl Cpu {
 
     /// One user step: a walk of at most one, so that the code of an instruction stands in the program once.
     pub fn step(&mut self) -> Outcome
-        ensures step { user_step self.old ≡ made result self.new }
+        ensures step { user_step self.old ≡ step_of result self.new }
         ensures stays { Stays result self.old self.new }
     {
         self.walk(1).1

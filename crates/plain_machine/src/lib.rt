@@ -10,6 +10,7 @@
 
 mod calls;
 mod cpu;
+mod laws;
 mod machine;
 mod messages;
 mod plain;
@@ -17,4 +18,5 @@ mod start;
 #[cfg(test)]
 mod tests;
 
+pub use laws::user_steps_trap;
 pub use plain::{Plain, PlainEnd, PlainFault};

@@ -5,7 +5,7 @@ ghost use Rattle.plain_machine.specs.Direct.{World, machine_step, is_built, stat
 ghost use Rattle.plain_machine.specs.Machines.{Reaches, IsPossible};
 
 use crate::PlainFault;
-use crate::calls::call;
+use crate::calls::{Process, call};
 use crate::cpu::{Cpu, Outcome};
 use crate::messages::{Message, last_words};
 use fe_base::{Failed, Sink};
@@ -22,12 +22,10 @@ pub enum Phase {
     Ended(u8),
 }
 
-/// A program with its phase, its break, and the first break that it had.
+/// A program with its phase.
 #[derive(Drop)]
 pub struct Machine {
-    cpu: Cpu,
-    program_break: u64,
-    first_break: u64,
+    process: Process,
     phase: Phase,
 }
 
@@ -37,7 +35,7 @@ impl Model for Machine {
 
     ghost Value = { DirectMachine };
 
-    ghost view = { λ m. machine_of m.cpu m.program_break m.first_break m.phase };
+    ghost view = { λ m. machine_of m.process m.phase };
 }
 
 // One byte on the console.
@@ -56,12 +54,15 @@ impl Machine {
 
     /// A program before its first step, with this first break.
     pub fn new(cpu: Cpu, first_break: u64) -> Machine
-        ensures { result ≡ running cpu first_break first_break }
+        ensures { result ≡ running (record { state = cpu; program_break = first_break; first_break = first_break }) }
     {
-        Machine {
+        let process = Process {
             cpu,
             program_break: first_break,
             first_break,
+        };
+        Machine {
+            process,
             phase: Phase::Running,
         }
     }
@@ -87,7 +88,7 @@ impl Machine {
         ensures status { status_of self.new ≡ status_of self.old }
     {
         match self.phase {
-            Phase::Running => self.cpu.walk(most).0,
+            Phase::Running => self.process.cpu.walk(most).0,
             Phase::Dying { .. } | Phase::Ended(_) => 0,
         }
     }
@@ -112,21 +113,15 @@ impl Machine {
             → IsErrOf result PlainFault.ConsoleFault → ⊥ }
     {
         match &mut self.phase {
-            Phase::Running => match self.cpu.step() {
+            Phase::Running => match self.process.cpu.step() {
                 Outcome::Moved => {}
                 Outcome::Called => {
-                    let ended = call(
-                        &mut self.cpu,
-                        &mut self.program_break,
-                        self.first_break,
-                        console,
-                    )?;
-                    if let Some(status) = ended {
+                    if let Some(status) = call(&mut self.process, console)? {
                         self.phase = Phase::Ended(status);
                     }
                 }
-                Outcome::Trapped { cause, value } => {
-                    let (message, status) = last_words(cause, self.cpu.pc(), value);
+                Outcome::Trapped(trap) => {
+                    let (message, status) = last_words(trap, self.process.cpu.pc());
                     self.phase = Phase::Dying { message, status };
                 }
             },

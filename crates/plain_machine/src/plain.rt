@@ -5,8 +5,9 @@ ghost use Rattle.plain_machine.specs.Machines.{IsPossible};
 
 use crate::cpu::Cpu;
 use crate::machine::Machine;
-use crate::start::{STACK_TOP, first_bus};
+use crate::start::first_bus;
 use elf_loader::Image;
+use fe_base::limits::{MAIN_VARS_LIMIT, PATH_TEXT_LIMIT, STACK_TOP};
 use fe_base::{Sink, Source, Words};
 use folder_tree::{Folder, Path};
 use std::alloc::{AllocError, Global};
@@ -63,8 +64,8 @@ impl Plain {
     /// its calls begin; no call that is built names a path, so nothing keeps it.
     pub fn start(alloc: Global, image: Image, args: &Words, root: Path) -> Result<Plain, AllocError>
         requires fit { IsFit image }
-        requires arguments { main_vars_length args.now ≤ 65536 }
-        requires root_length { length (path_text root) ≤ 4095 }
+        requires arguments { main_vars_length args.now ≤ MAIN_VARS_LIMIT }
+        requires root_length { length (path_text root) ≤ PATH_TEXT_LIMIT }
         ensures { IfOk result (λ plain. plain ≡ record { machine = first_machine image args.now; steps = 0 }) }
     {
         let bus = first_bus(alloc, &image.segments, args)?;

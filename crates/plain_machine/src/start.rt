@@ -6,15 +6,13 @@ ghost use Rattle.fe_base.specs.MemoryMap.{user_start, user_end};
 ghost use Rattle.fe_base.specs.WordLists.{main_vars_length};
 ghost use Rattle.guest_memory.specs.Bus.{user_size};
 ghost use Rattle.guest_memory.specs.Memory.{zeros};
-ghost use Rattle.plain_machine.specs.Direct.{placed, loaded, stack_top};
+ghost use Rattle.plain_machine.specs.Direct.{placed, loaded};
 
 use elf_loader::{Segments, main_vars};
 use fe_base::Words;
+use fe_base::limits::{MAIN_VARS_LIMIT, STACK_TOP};
 use guest_memory::Bus;
 use std::alloc::{AllocError, Global};
-
-/// Where the stack ends and the main vars begin.
-pub const STACK_TOP: u64 = 0x100_0000;
 
 // Puts bytes into the user area, from an address.
 fn place(bus: &mut Bus, at: u64, bytes: &[u8])
@@ -38,8 +36,8 @@ fn load(bus: &mut Bus, segments: &Segments)
 /// The bus at the start: the user area is zeros but for the segments, and the main vars at the stack's top.
 pub fn first_bus(alloc: Global, segments: &Segments, args: &Words) -> Result<Bus, AllocError>
     requires fit { All IsFitSegment segments.now }
-    requires arguments { main_vars_length args.now ≤ 65536 }
-    ensures { IfOk result (λ bus. bus.user ≡ placed (loaded segments.now (zeros user_size)) stack_top (main_vars_text args.now stack_top)) }
+    requires arguments { main_vars_length args.now ≤ MAIN_VARS_LIMIT }
+    ensures { IfOk result (λ bus. bus.user ≡ placed (loaded segments.now (zeros user_size)) STACK_TOP (main_vars_text args.now STACK_TOP)) }
 {
     let mut bus = Bus::new(alloc)?;
     let vars = main_vars(alloc, args, STACK_TOP)?;

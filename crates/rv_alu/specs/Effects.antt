@@ -55,7 +55,7 @@ loaded Half true number = register_of (cast_signed w16 number)
 loaded Word true number = register_of (cast_signed w32 number)
 loaded Double true number = number
 
--- the effect of an instruction at pc over the registers (Unprivileged ISA, RV32I, RV64I, Zifencei, Zicsr and the M extension; Privileged ISA, MRET and WFI)
+-- the effect of an instruction at pc over the registers (Unprivileged ISA, RV32I, RV64I, Zifencei, Zicsr and the M extension; Privileged Architecture, MRET and WFI)
 unfoldable pub effect_of : Insn → ℕ → List ℕ → Effect
 effect_of (Lui rd imm) pc registers = Set rd (upper imm)
 effect_of (Auipc rd imm) pc registers = Set rd ((pc + upper imm) % 2 ^ 64)

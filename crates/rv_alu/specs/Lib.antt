@@ -1,3 +1,5 @@
 pub mod Numbers
 pub mod Formulas
 pub mod Effects
+pub mod Causes
+pub mod Laws

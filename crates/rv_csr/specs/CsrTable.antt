@@ -1,6 +1,7 @@
 -- The control and status registers: their numbers, what each keeps, and which accesses are illegal.
 use Rattle.std.specs.Prelude.{◌≡◌, ℕ, ◌+◌, ◌*◌, ◌/◌, ◌%◌, ◌^◌, ◌<◌, ◌==◌, Bool, true, false, Option, Some, None, if◌then◌else◌}
-use Rattle.rv_csr.specs.Fields.{bits, is_set, bit, aligned, mode_number, kept_mode}
+use Rattle.rv_decode.specs.Alignment.{instruction_alignment}
+use Rattle.rv_csr.specs.Fields.{bits, is_set, bit, aligned, instruction_aligned, mode_number, kept_mode}
 use Rattle.rv_csr.specs.Pmp.{PmpState, IsEntry, configuration, configured, no_entry, pmp_allows}
 use Rattle.rv_csr.specs.declared.privilege.Access.{Access}
 use Rattle.rv_csr.specs.declared.privilege.Mode.{Mode}
@@ -26,7 +27,7 @@ pub record IsCsrs (csrs : CsrState) : Type 0 where
   pub mtvec_aligned : csrs.mtvec % 4 ≡ 0
   pub mscratch_fits : csrs.mscratch < 2 ^ 64
   pub mepc_fits : csrs.mepc < 2 ^ 64
-  pub mepc_aligned : csrs.mepc % 4 ≡ 0
+  pub mepc_aligned : csrs.mepc % instruction_alignment ≡ 0
   pub mcause_fits : csrs.mcause < 2 ^ 64
   pub mtval_fits : csrs.mtval < 2 ^ 64
   pub pmp0_fits : IsEntry csrs.pmp.entry0
@@ -40,20 +41,20 @@ reset_csrs = record { mstatus_mie = false; mstatus_mpie = false; mstatus_mpp = U
 unfoldable pub csr_of : ℕ → Option Csr
 csr_of number =
     if number == 0x300 then Some Mstatus
-    else (if number == 0x301 then Some Misa
-    else (if number == 0x304 then Some Mie
-    else (if number == 0x305 then Some Mtvec
-    else (if number == 0x306 then Some Mcounteren
-    else (if number == 0x340 then Some Mscratch
-    else (if number == 0x341 then Some Mepc
-    else (if number == 0x342 then Some Mcause
-    else (if number == 0x343 then Some Mtval
-    else (if number == 0x344 then Some Mip
-    else (if number == 0x3a0 then Some Pmpcfg0
-    else (if number == 0x3b0 then Some Pmpaddr0
-    else (if number == 0x3b1 then Some Pmpaddr1
-    else (if number == 0xf14 then Some Mhartid
-    else None)))))))))))))
+    else if number == 0x301 then Some Misa
+    else if number == 0x304 then Some Mie
+    else if number == 0x305 then Some Mtvec
+    else if number == 0x306 then Some Mcounteren
+    else if number == 0x340 then Some Mscratch
+    else if number == 0x341 then Some Mepc
+    else if number == 0x342 then Some Mcause
+    else if number == 0x343 then Some Mtval
+    else if number == 0x344 then Some Mip
+    else if number == 0x3a0 then Some Pmpcfg0
+    else if number == 0x3b0 then Some Pmpaddr0
+    else if number == 0x3b1 then Some Pmpaddr1
+    else if number == 0xf14 then Some Mhartid
+    else None
 
 -- a number whose bits 11:10 are 3 is that of a register that is only read (Privileged Architecture, 2.1)
 abbrev pub is_read_only : ℕ → Bool
@@ -80,7 +81,7 @@ csr_value Pmpaddr0 csrs = csrs.pmp.entry0.end / 4
 csr_value Pmpaddr1 csrs = csrs.pmp.entry1.end / 4
 csr_value Mhartid csrs = 0
 
--- what the registers are after a write of one: mstatus keeps MIE, MPIE and MPP, mtvec and mepc bits 63:2, mscratch, mcause and mtval all bits, pmpcfg0 its two low bytes, and pmpaddr0 and pmpaddr1 bits 53:0, which are bits 55:2 of the address at which their entry ends; a write of misa, mie, mip or mcounteren does nothing, and mhartid is not written (Privileged Architecture, 3.1 and 3.7.1)
+-- what the registers are after a write of one: mstatus keeps MIE, MPIE and MPP, mtvec bits 63:2, mepc the bits that an aligned address has, mscratch, mcause and mtval all bits, pmpcfg0 its two low bytes, and pmpaddr0 and pmpaddr1 bits 53:0, which are bits 55:2 of the address at which their entry ends; a write of misa, mie, mip or mcounteren does nothing, and mhartid is not written (Privileged Architecture, 3.1 and 3.7.1)
 abbrev pub with_csr : Csr → ℕ → CsrState → CsrState
 with_csr Mstatus value csrs = record csrs { mstatus_mie = is_set value 3; mstatus_mpie = is_set value 7; mstatus_mpp = kept_mode (bits value 11 2) }
 with_csr Misa value csrs = csrs
@@ -88,7 +89,7 @@ with_csr Mie value csrs = csrs
 with_csr Mtvec value csrs = record csrs { mtvec = aligned value }
 with_csr Mcounteren value csrs = csrs
 with_csr Mscratch value csrs = record csrs { mscratch = value }
-with_csr Mepc value csrs = record csrs { mepc = aligned value }
+with_csr Mepc value csrs = record csrs { mepc = instruction_aligned value }
 with_csr Mcause value csrs = record csrs { mcause = value }
 with_csr Mtval value csrs = record csrs { mtval = value }
 with_csr Mip value csrs = csrs

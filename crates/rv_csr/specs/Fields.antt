@@ -1,5 +1,6 @@
 -- Fields of registers.
 use Rattle.std.specs.Prelude.{ℕ, ◌-◌, ◌/◌, ◌%◌, ◌^◌, ◌==◌, Bool, if◌then◌else◌}
+use Rattle.rv_decode.specs.Alignment.{instruction_alignment}
 use Rattle.rv_csr.specs.declared.privilege.Mode.{Mode}
 use Rattle.rv_csr.specs.declared.privilege.Mode.TheVariants.{User, Machine}
 
@@ -18,6 +19,10 @@ bit is = if is then 1 else 0
 -- an address with its low two bits cleared
 abbrev pub aligned : ℕ → ℕ
 aligned address = address - address % 4
+
+-- the last address up to this one at which an instruction may stand
+abbrev pub instruction_aligned : ℕ → ℕ
+instruction_aligned address = address - address % instruction_alignment
 
 -- the two bits that stand for a mode (Privileged Architecture, 1.2)
 abbrev pub mode_number : Mode → ℕ

@@ -8,7 +8,7 @@ ghost use Rattle.rv_csr.specs.Traps.{after_trap, after_return};
 
 use crate::pmp::{Pmp, PmpEntry};
 use crate::privilege::{Access, Mode};
-use crate::table::{Csr, aligned, bits, csr_of, is_read_only, is_set};
+use crate::table::{Csr, aligned, bits, csr_of, instruction_aligned, is_read_only, is_set};
 use std::marker::Model;
 
 /// The control and status registers of a hart, seen as what they keep.
@@ -27,6 +27,7 @@ pub struct Csrs {
 
 impl Model for Csrs {
     ghost use Rattle.std.specs.Prelude.{◌≡◌, ◌%◌};
+    ghost use Rattle.rv_decode.specs.Alignment.{instruction_alignment};
     ghost use Rattle.rv_csr.specs.CsrTable.{CsrState};
     ghost use Rattle.rv_csr.specs.Pmp.{IsEntry};
 
@@ -34,7 +35,7 @@ impl Model for Csrs {
 
     ghost view = { λ c. record { mstatus_mie = c.mstatus_mie; mstatus_mpie = c.mstatus_mpie; mstatus_mpp = c.mstatus_mpp; mtvec = c.mtvec; mscratch = c.mscratch; mepc = c.mepc; mcause = c.mcause; mtval = c.mtval; pmp = c.pmp } };
 
-    ghost invariant = { λ c. (c.mtvec % 4 ≡ 0) × (c.mepc % 4 ≡ 0) × IsEntry c.pmp.entry0 × IsEntry c.pmp.entry1 };
+    ghost invariant = { λ c. (c.mtvec % 4 ≡ 0) × (c.mepc % instruction_alignment ≡ 0) × IsEntry c.pmp.entry0 × IsEntry c.pmp.entry1 };
 }
 
 impl Csrs {
@@ -92,7 +93,7 @@ impl Csrs {
         ensures after { self.new ≡ after_trap cause value pc mode self.old }
         ensures range { IsCsrs self.new }
     {
-        self.mepc = aligned(pc);
+        self.mepc = instruction_aligned(pc);
         self.mcause = cause;
         self.mtval = value;
         self.mstatus_mpie = self.mstatus_mie;
@@ -166,7 +167,7 @@ impl Csrs {
             Csr::Misa | Csr::Mie | Csr::Mip | Csr::Mcounteren | Csr::Mhartid => {}
             Csr::Mtvec => self.mtvec = aligned(value),
             Csr::Mscratch => self.mscratch = value,
-            Csr::Mepc => self.mepc = aligned(value),
+            Csr::Mepc => self.mepc = instruction_aligned(value),
             Csr::Mcause => self.mcause = value,
             Csr::Mtval => self.mtval = value,
             Csr::Pmpcfg0 => {

@@ -3,6 +3,8 @@ ghost use Rattle.std.specs.Prelude.{◌≡◌, ◌<◌, ◌%◌, ◌^◌};
 ghost use Rattle.rv_csr.specs.Fields as field;
 ghost use Rattle.rv_csr.specs.CsrTable as spec;
 
+use rv_decode::INSTRUCTION_ALIGNMENT;
+
 /// A register, by its name in the Privileged Architecture.
 #[derive(Clone, Copy)]
 pub enum Csr {
@@ -77,4 +79,12 @@ pub fn aligned(address: u64) -> u64
     ensures aligned { result % 4 ≡ 0 }
 {
     address - address % 4
+}
+
+/// The last address up to this one at which an instruction may stand.
+pub fn instruction_aligned(address: u64) -> u64
+    ensures value { result ≡ field.instruction_aligned address }
+    ensures aligned { result % INSTRUCTION_ALIGNMENT ≡ 0 }
+{
+    address - address % INSTRUCTION_ALIGNMENT
 }

@@ -1,2 +1,2 @@
 mod Rows
-mod RowFits
+pub mod RowFits

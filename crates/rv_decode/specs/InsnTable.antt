@@ -4,7 +4,7 @@ use Rattle.rv_decode.specs.Fields.{opcode, funct3, funct6, funct7, rd_at, rs1_at
 use Rattle.rv_decode.specs.declared.instruction.Insn.{Insn}
 use Rattle.rv_decode.specs.declared.instruction.Insn.TheVariants.{Lui, Auipc, Jal, Jalr, Beq, Bne, Blt, Bge, Bltu, Bgeu, Lb, Lh, Lw, Ld, Lbu, Lhu, Lwu, Sb, Sh, Sw, Sd, Addi, Slti, Sltiu, Xori, Ori, Andi, Slli, Srli, Srai, Addiw, Slliw, Srliw, Sraiw, Add, Sll, Slt, Sltu, Xor, Srl, Or, And, Sub, Sra, Mul, Mulh, Mulhsu, Mulhu, Div, Divu, Rem, Remu, Addw, Sllw, Srlw, Subw, Sraw, Mulw, Divw, Divuw, Remw, Remuw, Fence, FenceI, Ecall, Ebreak, Mret, Wfi, Csrrw, Csrrs, Csrrc, Csrrwi, Csrrsi, Csrrci}
 
--- the word stands for the instruction: its format and the values of its fixed fields (Unprivileged ISA, RV32/64G Instruction Set Listings; MRET and WFI: Privileged ISA, RISC-V Privileged Instruction Set Listings)
+-- the word stands for the instruction: its format and the values of its fixed fields (Unprivileged ISA, RV32/64G Instruction Set Listings; MRET and WFI: Privileged Architecture, RISC-V Privileged Instruction Set Listings)
 abbrev pub Row : ℕ → Insn → Type 0
 Row word (Lui rd imm) = IsU 0x37 rd imm word
 Row word (Auipc rd imm) = IsU 0x17 rd imm word
@@ -84,133 +84,148 @@ Row word (Csrrci rd imm csr) = IsCsr 0x73 7 rd imm csr word
 -- opcode BRANCH, by funct3 (Unprivileged ISA, 2.5.2 Conditional Branches)
 unfoldable pub branch_of : ℕ → Option Insn
 branch_of word =
-    if funct3 word == 0 then Some (Beq (rs1_at word) (rs2_at word) (b_at word)) else (
-    if funct3 word == 1 then Some (Bne (rs1_at word) (rs2_at word) (b_at word)) else (
-    if funct3 word == 4 then Some (Blt (rs1_at word) (rs2_at word) (b_at word)) else (
-    if funct3 word == 5 then Some (Bge (rs1_at word) (rs2_at word) (b_at word)) else (
-    if funct3 word == 6 then Some (Bltu (rs1_at word) (rs2_at word) (b_at word)) else (
-    if funct3 word == 7 then Some (Bgeu (rs1_at word) (rs2_at word) (b_at word)) else None)))))
+    if funct3 word == 0 then Some (Beq (rs1_at word) (rs2_at word) (b_at word))
+    else if funct3 word == 1 then Some (Bne (rs1_at word) (rs2_at word) (b_at word))
+    else if funct3 word == 4 then Some (Blt (rs1_at word) (rs2_at word) (b_at word))
+    else if funct3 word == 5 then Some (Bge (rs1_at word) (rs2_at word) (b_at word))
+    else if funct3 word == 6 then Some (Bltu (rs1_at word) (rs2_at word) (b_at word))
+    else if funct3 word == 7 then Some (Bgeu (rs1_at word) (rs2_at word) (b_at word))
+    else None
 
 -- opcode LOAD, by funct3 (Unprivileged ISA, 2.6 Load and Store Instructions; RV64I)
 unfoldable pub load_of : ℕ → Option Insn
 load_of word =
-    if funct3 word == 0 then Some (Lb (rd_at word) (rs1_at word) (i_at word)) else (
-    if funct3 word == 1 then Some (Lh (rd_at word) (rs1_at word) (i_at word)) else (
-    if funct3 word == 2 then Some (Lw (rd_at word) (rs1_at word) (i_at word)) else (
-    if funct3 word == 3 then Some (Ld (rd_at word) (rs1_at word) (i_at word)) else (
-    if funct3 word == 4 then Some (Lbu (rd_at word) (rs1_at word) (i_at word)) else (
-    if funct3 word == 5 then Some (Lhu (rd_at word) (rs1_at word) (i_at word)) else (
-    if funct3 word == 6 then Some (Lwu (rd_at word) (rs1_at word) (i_at word)) else None))))))
+    if funct3 word == 0 then Some (Lb (rd_at word) (rs1_at word) (i_at word))
+    else if funct3 word == 1 then Some (Lh (rd_at word) (rs1_at word) (i_at word))
+    else if funct3 word == 2 then Some (Lw (rd_at word) (rs1_at word) (i_at word))
+    else if funct3 word == 3 then Some (Ld (rd_at word) (rs1_at word) (i_at word))
+    else if funct3 word == 4 then Some (Lbu (rd_at word) (rs1_at word) (i_at word))
+    else if funct3 word == 5 then Some (Lhu (rd_at word) (rs1_at word) (i_at word))
+    else if funct3 word == 6 then Some (Lwu (rd_at word) (rs1_at word) (i_at word))
+    else None
 
 -- opcode STORE, by funct3 (Unprivileged ISA, 2.6 Load and Store Instructions; RV64I)
 unfoldable pub store_of : ℕ → Option Insn
 store_of word =
-    if funct3 word == 0 then Some (Sb (rs1_at word) (rs2_at word) (s_at word)) else (
-    if funct3 word == 1 then Some (Sh (rs1_at word) (rs2_at word) (s_at word)) else (
-    if funct3 word == 2 then Some (Sw (rs1_at word) (rs2_at word) (s_at word)) else (
-    if funct3 word == 3 then Some (Sd (rs1_at word) (rs2_at word) (s_at word)) else None)))
+    if funct3 word == 0 then Some (Sb (rs1_at word) (rs2_at word) (s_at word))
+    else if funct3 word == 1 then Some (Sh (rs1_at word) (rs2_at word) (s_at word))
+    else if funct3 word == 2 then Some (Sw (rs1_at word) (rs2_at word) (s_at word))
+    else if funct3 word == 3 then Some (Sd (rs1_at word) (rs2_at word) (s_at word))
+    else None
 
 -- opcode OP-IMM, by funct3, and the shifts by funct6 (Unprivileged ISA, 2.4.1 Integer Register-Immediate Instructions; RV64I)
 unfoldable pub op_imm_of : ℕ → Option Insn
 op_imm_of word =
-    if funct3 word == 0 then Some (Addi (rd_at word) (rs1_at word) (i_at word)) else (
-    if funct3 word == 1 then (if funct6 word == 0 then Some (Slli (rd_at word) (rs1_at word) (amount_at word)) else None) else (
-    if funct3 word == 2 then Some (Slti (rd_at word) (rs1_at word) (i_at word)) else (
-    if funct3 word == 3 then Some (Sltiu (rd_at word) (rs1_at word) (i_at word)) else (
-    if funct3 word == 4 then Some (Xori (rd_at word) (rs1_at word) (i_at word)) else (
-    if funct3 word == 5 then (if funct6 word == 0 then Some (Srli (rd_at word) (rs1_at word) (amount_at word)) else (if funct6 word == 0x10 then Some (Srai (rd_at word) (rs1_at word) (amount_at word)) else None)) else (
-    if funct3 word == 6 then Some (Ori (rd_at word) (rs1_at word) (i_at word)) else (
-    if funct3 word == 7 then Some (Andi (rd_at word) (rs1_at word) (i_at word)) else None)))))))
+    if funct3 word == 0 then Some (Addi (rd_at word) (rs1_at word) (i_at word))
+    else if funct3 word == 1 then (if funct6 word == 0 then Some (Slli (rd_at word) (rs1_at word) (amount_at word)) else None)
+    else if funct3 word == 2 then Some (Slti (rd_at word) (rs1_at word) (i_at word))
+    else if funct3 word == 3 then Some (Sltiu (rd_at word) (rs1_at word) (i_at word))
+    else if funct3 word == 4 then Some (Xori (rd_at word) (rs1_at word) (i_at word))
+    else if funct3 word == 5 then (if funct6 word == 0 then Some (Srli (rd_at word) (rs1_at word) (amount_at word)) else if funct6 word == 0x10 then Some (Srai (rd_at word) (rs1_at word) (amount_at word)) else None)
+    else if funct3 word == 6 then Some (Ori (rd_at word) (rs1_at word) (i_at word))
+    else if funct3 word == 7 then Some (Andi (rd_at word) (rs1_at word) (i_at word))
+    else None
 
 -- opcode OP-IMM-32, by funct3, and the shifts by funct7 (Unprivileged ISA, RV64I, Integer Register-Immediate Instructions)
 unfoldable pub op_imm_32_of : ℕ → Option Insn
 op_imm_32_of word =
-    if funct3 word == 0 then Some (Addiw (rd_at word) (rs1_at word) (i_at word)) else (
-    if funct3 word == 1 then (if funct7 word == 0 then Some (Slliw (rd_at word) (rs1_at word) (rs2_at word)) else None) else (
-    if funct3 word == 5 then (if funct7 word == 0 then Some (Srliw (rd_at word) (rs1_at word) (rs2_at word)) else (if funct7 word == 0x20 then Some (Sraiw (rd_at word) (rs1_at word) (rs2_at word)) else None)) else None))
+    if funct3 word == 0 then Some (Addiw (rd_at word) (rs1_at word) (i_at word))
+    else if funct3 word == 1 then (if funct7 word == 0 then Some (Slliw (rd_at word) (rs1_at word) (rs2_at word)) else None)
+    else if funct3 word == 5 then (if funct7 word == 0 then Some (Srliw (rd_at word) (rs1_at word) (rs2_at word)) else if funct7 word == 0x20 then Some (Sraiw (rd_at word) (rs1_at word) (rs2_at word)) else None)
+    else None
 
 -- opcode OP with funct7 0, by funct3 (Unprivileged ISA, 2.4.2 Integer Register-Register Operations)
 unfoldable pub op_base_of : ℕ → Option Insn
 op_base_of word =
-    if funct3 word == 0 then Some (Add (rd_at word) (rs1_at word) (rs2_at word)) else (
-    if funct3 word == 1 then Some (Sll (rd_at word) (rs1_at word) (rs2_at word)) else (
-    if funct3 word == 2 then Some (Slt (rd_at word) (rs1_at word) (rs2_at word)) else (
-    if funct3 word == 3 then Some (Sltu (rd_at word) (rs1_at word) (rs2_at word)) else (
-    if funct3 word == 4 then Some (Xor (rd_at word) (rs1_at word) (rs2_at word)) else (
-    if funct3 word == 5 then Some (Srl (rd_at word) (rs1_at word) (rs2_at word)) else (
-    if funct3 word == 6 then Some (Or (rd_at word) (rs1_at word) (rs2_at word)) else (
-    if funct3 word == 7 then Some (And (rd_at word) (rs1_at word) (rs2_at word)) else None)))))))
+    if funct3 word == 0 then Some (Add (rd_at word) (rs1_at word) (rs2_at word))
+    else if funct3 word == 1 then Some (Sll (rd_at word) (rs1_at word) (rs2_at word))
+    else if funct3 word == 2 then Some (Slt (rd_at word) (rs1_at word) (rs2_at word))
+    else if funct3 word == 3 then Some (Sltu (rd_at word) (rs1_at word) (rs2_at word))
+    else if funct3 word == 4 then Some (Xor (rd_at word) (rs1_at word) (rs2_at word))
+    else if funct3 word == 5 then Some (Srl (rd_at word) (rs1_at word) (rs2_at word))
+    else if funct3 word == 6 then Some (Or (rd_at word) (rs1_at word) (rs2_at word))
+    else if funct3 word == 7 then Some (And (rd_at word) (rs1_at word) (rs2_at word))
+    else None
 
 -- opcode OP with funct7 0x20, by funct3 (Unprivileged ISA, 2.4.2 Integer Register-Register Operations)
 unfoldable pub op_alternate_of : ℕ → Option Insn
 op_alternate_of word =
-    if funct3 word == 0 then Some (Sub (rd_at word) (rs1_at word) (rs2_at word)) else (
-    if funct3 word == 5 then Some (Sra (rd_at word) (rs1_at word) (rs2_at word)) else None)
+    if funct3 word == 0 then Some (Sub (rd_at word) (rs1_at word) (rs2_at word))
+    else if funct3 word == 5 then Some (Sra (rd_at word) (rs1_at word) (rs2_at word))
+    else None
 
 -- opcode OP with funct7 1, by funct3 (Unprivileged ISA, M, Multiplication and Division Operations)
 unfoldable pub op_muldiv_of : ℕ → Option Insn
 op_muldiv_of word =
-    if funct3 word == 0 then Some (Mul (rd_at word) (rs1_at word) (rs2_at word)) else (
-    if funct3 word == 1 then Some (Mulh (rd_at word) (rs1_at word) (rs2_at word)) else (
-    if funct3 word == 2 then Some (Mulhsu (rd_at word) (rs1_at word) (rs2_at word)) else (
-    if funct3 word == 3 then Some (Mulhu (rd_at word) (rs1_at word) (rs2_at word)) else (
-    if funct3 word == 4 then Some (Div (rd_at word) (rs1_at word) (rs2_at word)) else (
-    if funct3 word == 5 then Some (Divu (rd_at word) (rs1_at word) (rs2_at word)) else (
-    if funct3 word == 6 then Some (Rem (rd_at word) (rs1_at word) (rs2_at word)) else (
-    if funct3 word == 7 then Some (Remu (rd_at word) (rs1_at word) (rs2_at word)) else None)))))))
+    if funct3 word == 0 then Some (Mul (rd_at word) (rs1_at word) (rs2_at word))
+    else if funct3 word == 1 then Some (Mulh (rd_at word) (rs1_at word) (rs2_at word))
+    else if funct3 word == 2 then Some (Mulhsu (rd_at word) (rs1_at word) (rs2_at word))
+    else if funct3 word == 3 then Some (Mulhu (rd_at word) (rs1_at word) (rs2_at word))
+    else if funct3 word == 4 then Some (Div (rd_at word) (rs1_at word) (rs2_at word))
+    else if funct3 word == 5 then Some (Divu (rd_at word) (rs1_at word) (rs2_at word))
+    else if funct3 word == 6 then Some (Rem (rd_at word) (rs1_at word) (rs2_at word))
+    else if funct3 word == 7 then Some (Remu (rd_at word) (rs1_at word) (rs2_at word))
+    else None
 
 -- opcode OP, by funct7 (Unprivileged ISA, RV32/64G Instruction Set Listings)
 unfoldable pub op_of : ℕ → Option Insn
 op_of word =
-    if funct7 word == 0 then op_base_of word else (
-    if funct7 word == 0x20 then op_alternate_of word else (
-    if funct7 word == 1 then op_muldiv_of word else None))
+    if funct7 word == 0 then op_base_of word
+    else if funct7 word == 0x20 then op_alternate_of word
+    else if funct7 word == 1 then op_muldiv_of word
+    else None
 
 -- opcode OP-32 with funct7 0, by funct3 (Unprivileged ISA, RV64I, Integer Register-Register Operations)
 unfoldable pub op_32_base_of : ℕ → Option Insn
 op_32_base_of word =
-    if funct3 word == 0 then Some (Addw (rd_at word) (rs1_at word) (rs2_at word)) else (
-    if funct3 word == 1 then Some (Sllw (rd_at word) (rs1_at word) (rs2_at word)) else (
-    if funct3 word == 5 then Some (Srlw (rd_at word) (rs1_at word) (rs2_at word)) else None))
+    if funct3 word == 0 then Some (Addw (rd_at word) (rs1_at word) (rs2_at word))
+    else if funct3 word == 1 then Some (Sllw (rd_at word) (rs1_at word) (rs2_at word))
+    else if funct3 word == 5 then Some (Srlw (rd_at word) (rs1_at word) (rs2_at word))
+    else None
 
 -- opcode OP-32 with funct7 0x20, by funct3 (Unprivileged ISA, RV64I, Integer Register-Register Operations)
 unfoldable pub op_32_alternate_of : ℕ → Option Insn
 op_32_alternate_of word =
-    if funct3 word == 0 then Some (Subw (rd_at word) (rs1_at word) (rs2_at word)) else (
-    if funct3 word == 5 then Some (Sraw (rd_at word) (rs1_at word) (rs2_at word)) else None)
+    if funct3 word == 0 then Some (Subw (rd_at word) (rs1_at word) (rs2_at word))
+    else if funct3 word == 5 then Some (Sraw (rd_at word) (rs1_at word) (rs2_at word))
+    else None
 
 -- opcode OP-32 with funct7 1, by funct3 (Unprivileged ISA, M, RV64M)
 unfoldable pub op_32_muldiv_of : ℕ → Option Insn
 op_32_muldiv_of word =
-    if funct3 word == 0 then Some (Mulw (rd_at word) (rs1_at word) (rs2_at word)) else (
-    if funct3 word == 4 then Some (Divw (rd_at word) (rs1_at word) (rs2_at word)) else (
-    if funct3 word == 5 then Some (Divuw (rd_at word) (rs1_at word) (rs2_at word)) else (
-    if funct3 word == 6 then Some (Remw (rd_at word) (rs1_at word) (rs2_at word)) else (
-    if funct3 word == 7 then Some (Remuw (rd_at word) (rs1_at word) (rs2_at word)) else None))))
+    if funct3 word == 0 then Some (Mulw (rd_at word) (rs1_at word) (rs2_at word))
+    else if funct3 word == 4 then Some (Divw (rd_at word) (rs1_at word) (rs2_at word))
+    else if funct3 word == 5 then Some (Divuw (rd_at word) (rs1_at word) (rs2_at word))
+    else if funct3 word == 6 then Some (Remw (rd_at word) (rs1_at word) (rs2_at word))
+    else if funct3 word == 7 then Some (Remuw (rd_at word) (rs1_at word) (rs2_at word))
+    else None
 
 -- opcode OP-32, by funct7 (Unprivileged ISA, RV32/64G Instruction Set Listings)
 unfoldable pub op_32_of : ℕ → Option Insn
 op_32_of word =
-    if funct7 word == 0 then op_32_base_of word else (
-    if funct7 word == 0x20 then op_32_alternate_of word else (
-    if funct7 word == 1 then op_32_muldiv_of word else None))
+    if funct7 word == 0 then op_32_base_of word
+    else if funct7 word == 0x20 then op_32_alternate_of word
+    else if funct7 word == 1 then op_32_muldiv_of word
+    else None
 
 -- opcode MISC-MEM, by funct3 (Unprivileged ISA, 2.7 Memory Ordering Instructions; Zifencei)
 unfoldable pub misc_mem_of : ℕ → Option Insn
 misc_mem_of word =
-    if funct3 word == 0 then Some (Fence word) else (
-    if funct3 word == 1 then Some (FenceI word) else None)
+    if funct3 word == 0 then Some (Fence word)
+    else if funct3 word == 1 then Some (FenceI word)
+    else None
 
 -- opcode SYSTEM, by funct3, and under 0 by the whole word (Unprivileged ISA, 2.8 Environment Call and Breakpoints; Zicsr)
 unfoldable pub system_of : ℕ → Option Insn
 system_of word =
-    if funct3 word == 0 then (if word == 0x00000073 then Some Ecall else (if word == 0x00100073 then Some Ebreak else (if word == 0x30200073 then Some Mret else (if word == 0x10500073 then Some Wfi else None)))) else (
-    if funct3 word == 1 then Some (Csrrw (rd_at word) (rs1_at word) (csr_at word)) else (
-    if funct3 word == 2 then Some (Csrrs (rd_at word) (rs1_at word) (csr_at word)) else (
-    if funct3 word == 3 then Some (Csrrc (rd_at word) (rs1_at word) (csr_at word)) else (
-    if funct3 word == 5 then Some (Csrrwi (rd_at word) (rs1_at word) (csr_at word)) else (
-    if funct3 word == 6 then Some (Csrrsi (rd_at word) (rs1_at word) (csr_at word)) else (
-    if funct3 word == 7 then Some (Csrrci (rd_at word) (rs1_at word) (csr_at word)) else None))))))
+    if funct3 word == 0 then (if word == 0x00000073 then Some Ecall else if word == 0x00100073 then Some Ebreak else if word == 0x30200073 then Some Mret else if word == 0x10500073 then Some Wfi else None)
+    else if funct3 word == 1 then Some (Csrrw (rd_at word) (rs1_at word) (csr_at word))
+    else if funct3 word == 2 then Some (Csrrs (rd_at word) (rs1_at word) (csr_at word))
+    else if funct3 word == 3 then Some (Csrrc (rd_at word) (rs1_at word) (csr_at word))
+    else if funct3 word == 5 then Some (Csrrwi (rd_at word) (rs1_at word) (csr_at word))
+    else if funct3 word == 6 then Some (Csrrsi (rd_at word) (rs1_at word) (csr_at word))
+    else if funct3 word == 7 then Some (Csrrci (rd_at word) (rs1_at word) (csr_at word))
+    else None
 
 -- opcode JALR (Unprivileged ISA, 2.5.1 Unconditional Jumps)
 unfoldable pub jalr_of : ℕ → Option Insn
@@ -220,16 +235,17 @@ jalr_of word =
 -- the instruction that the word stands for, by its opcode (Unprivileged ISA, RV32/64G Instruction Set Listings, base opcode map)
 unfoldable pub insn_of : ℕ → Option Insn
 insn_of word =
-    if opcode word == 0x37 then Some (Lui (rd_at word) (upper_at word)) else (
-    if opcode word == 0x17 then Some (Auipc (rd_at word) (upper_at word)) else (
-    if opcode word == 0x6f then Some (Jal (rd_at word) (j_at word)) else (
-    if opcode word == 0x63 then branch_of word else (
-    if opcode word == 0x03 then load_of word else (
-    if opcode word == 0x23 then store_of word else (
-    if opcode word == 0x13 then op_imm_of word else (
-    if opcode word == 0x1b then op_imm_32_of word else (
-    if opcode word == 0x33 then op_of word else (
-    if opcode word == 0x3b then op_32_of word else (
-    if opcode word == 0x0f then misc_mem_of word else (
-    if opcode word == 0x73 then system_of word else (
-    if opcode word == 0x67 then jalr_of word else None))))))))))))
+    if opcode word == 0x37 then Some (Lui (rd_at word) (upper_at word))
+    else if opcode word == 0x17 then Some (Auipc (rd_at word) (upper_at word))
+    else if opcode word == 0x6f then Some (Jal (rd_at word) (j_at word))
+    else if opcode word == 0x63 then branch_of word
+    else if opcode word == 0x03 then load_of word
+    else if opcode word == 0x23 then store_of word
+    else if opcode word == 0x13 then op_imm_of word
+    else if opcode word == 0x1b then op_imm_32_of word
+    else if opcode word == 0x33 then op_of word
+    else if opcode word == 0x3b then op_32_of word
+    else if opcode word == 0x0f then misc_mem_of word
+    else if opcode word == 0x73 then system_of word
+    else if opcode word == 0x67 then jalr_of word
+    else None

@@ -1,3 +1,4 @@
+pub mod Alignment
 pub mod Fields
 pub mod Fits
 pub mod InsnTable

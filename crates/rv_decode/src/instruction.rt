@@ -1,4 +1,7 @@
-// Instructions as values.
+// Instructions as values, and where they may stand.
+
+/// An instruction's address is a multiple of this (Unprivileged ISA, 1.5, IALIGN, in bytes).
+pub const INSTRUCTION_ALIGNMENT: u64 = 4;
 
 /// An instruction of RV64IM, Zicsr or Zifencei, MRET or WFI, under its name in the manual.
 ///

@@ -25,4 +25,4 @@ mod word_fields;
 pub use decoder::Decoder;
 pub use decoding::decode;
 pub use encoding::encode;
-pub use instruction::{Cond, Insn};
+pub use instruction::{Cond, INSTRUCTION_ALIGNMENT, Insn};

@@ -1,2 +1,6 @@
 pub mod AccessLemmas
 pub mod RegisterLemmas
+pub mod LinedLaws
+pub mod CountLaws
+pub mod CsrLaws
+pub mod RangeLaws

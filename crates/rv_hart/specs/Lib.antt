@@ -1,2 +1,4 @@
 pub mod Accesses
 pub mod HartStep
+pub mod LinedStep
+pub mod Laws

@@ -1,21 +1,20 @@
 // A hart and its step.
-ghost use Rattle.std.specs.Prelude.{◌≡◌, ◌≢◌, ◌<◌};
-ghost use Rattle.guest_memory.specs.Bus.{IsBus};
+ghost use Rattle.std.specs.Prelude.{◌≡◌, ◌≢◌, ◌<◌, Err, OnErr};
+ghost use Rattle.guest_memory.specs.Bus.{BusState, IsBus};
 ghost use Rattle.guest_memory.specs.Memory.{zeros};
 ghost use Rattle.rv_alu.specs.Effects as effect_spec;
 ghost use Rattle.rv_alu.specs.Effects.{IsInRange};
-ghost use Rattle.rv_hart.specs.declared.causes.Cause.TheVariants as cause_of;
 ghost use Rattle.rv_hart.specs.HartStep as spec;
-ghost use Rattle.rv_hart.specs.HartStep.{IsHart, IsUnhalted, AreQuiet, reset_hart, trapped, returned, privileged, csr_step, load_step, store_step, carried, instruction_step, counted_step, over, hart_step};
+ghost use Rattle.rv_hart.specs.HartStep.{IsHart, IsUnhalted, reset_hart, trap_step, after_mret, next_hart, privileged, csr_step, load_step, store_step, effect_step, instruction_step, executing_step, counted_step, step_of, over, hart_step};
+ghost use Rattle.rv_hart.specs.LinedStep.{AreQuiet, lined_step};
 
 use crate::access::{read, start_word, write};
-use crate::causes::Cause;
 use crate::debug::{DebugLines, Run};
 use fe_base::memory_map::KERNEL_START;
 use guest_memory::Bus;
-use rv_alu::{CsrOp, Effect, Size, act, loaded, put};
+use rv_alu::{Cause, CsrOp, Effect, Size, Trap, act, loaded, put};
 use rv_csr::{Access, Csrs, Mode};
-use rv_decode::Decoder;
+use rv_decode::{Decoder, INSTRUCTION_ALIGNMENT};
 use std::marker::Model;
 
 /// A hart with its 32 registers and its CSRs.
@@ -46,6 +45,16 @@ impl Model for Hart {
     ghost invariant = { λ h. AreRegisters h.registers × IsCsrs h.csrs };
 }
 
+// What a CSR instruction does: `rd` gets what the CSR held, which changes by `op` and the value where `writes`.
+#[derive(Clone, Copy)]
+struct CsrAccess {
+    rd: u8,
+    csr: u16,
+    op: CsrOp,
+    value: u64,
+    writes: bool,
+}
+
 #[tactic(auto, unfolding(guest_memory::specs::Memory::zeros))]
 fn no_registers() -> [u64; 32]
     ensures { result ≡ zeros 32 }
@@ -61,6 +70,24 @@ fn written_value(op: CsrOp, old: u64, value: u64) -> u64
         CsrOp::Write => value,
         CsrOp::SetBits => old | value,
         CsrOp::ClearBits => old & !value,
+    }
+}
+
+#[inline(always)]
+fn trapped(cause: Cause, value: u64) -> Result<(), Trap>
+    ensures { result ≡ Err (record { cause = cause; value = value }) }
+{
+    Err(Trap { cause, value })
+}
+
+// The cause of ECALL.
+#[inline(always)]
+fn call_cause(mode: Mode) -> Cause
+    ensures { result ≡ spec.call_cause mode }
+{
+    match mode {
+        Mode::User => Cause::UserCall,
+        Mode::Machine => Cause::MachineCall,
     }
 }
 
@@ -107,77 +134,59 @@ impl Hart {
         self.user_steps
     }
 
-    // Takes a trap.
-    #[cold]
-    #[tactic(auto, unfolding(crate::specs::HartStep::trapped_as))]
-    fn trap(&mut self, cause: Cause, value: u64)
-        ensures after { self.new ≡ trapped cause value self.old }
-        ensures run { self.new.run ≡ self.old.run }
-        ensures range { IsHart self.new }
-    {
-        self.pc = self
-            .csrs
-            .enter_trap(cause.number(), value, self.pc, self.mode);
-        self.mode = Mode::Machine;
-    }
-
-    // Takes the trap of an illegal instruction of these bits.
-    fn illegal(&mut self, bits: u32)
-        ensures after { self.new ≡ trapped cause_of.Illegal bits self.old }
-        ensures run { self.new.run ≡ self.old.run }
-        ensures range { IsHart self.new }
-    {
-        self.trap(Cause::Illegal, u64::from(bits));
-    }
-
     // MRET of an instruction of these bits.
-    #[tactic(auto, unfolding(crate::specs::HartStep::returned))]
-    fn return_from_trap(&mut self, bits: u32)
-        ensures after { self.new ≡ privileged self.old.mode bits self.old (returned self.old) }
+    #[tactic(auto, unfolding(crate::specs::HartStep::after_mret))]
+    fn return_from_trap(&mut self, bits: u32) -> Result<(), Trap>
+        ensures step { (bus : BusState) → privileged self.old.mode bits (next_hart bus (after_mret self.old)) ≡ step_of result (over bus self.new) }
+        ensures stays { OnErr result (self.new ≡ self.old) }
         ensures run { self.new.run ≡ self.old.run }
         ensures range { IsHart self.new }
     {
-        if self.mode == Mode::User {
-            self.illegal(bits);
-        } else {
-            (self.mode, self.pc) = self.csrs.leave_trap();
+        match self.mode {
+            Mode::User => trapped(Cause::Illegal, u64::from(bits)),
+            Mode::Machine => {
+                (self.mode, self.pc) = self.csrs.leave_trap();
+                Ok(())
+            }
         }
     }
 
     // A CSR instruction of these bits, with the next one at `after`.
     #[tactic(auto, using(crate::proofs::RegisterLemmas::registers), unfolding(crate::specs::HartStep::csr_step))]
-    fn access_csr(
-        &mut self,
-        bits: u32,
-        after: u64,
-        rd: u8,
-        csr: u16,
-        op: CsrOp,
-        value: u64,
-        writes: bool,
-    )
-        requires { rd < 32 }
-        ensures after { self.new ≡ csr_step bits after rd csr op value writes self.old }
+    fn access_csr(&mut self, access: CsrAccess, bits: u32, after: u64) -> Result<(), Trap>
+        requires { access.rd < 32 }
+        ensures step { (bus : BusState) → csr_step access bits after (over bus self.old) ≡ step_of result (over bus self.new) }
+        ensures stays { OnErr result (self.new ≡ self.old) }
         ensures run { self.new.run ≡ self.old.run }
         ensures range { IsHart self.new }
     {
-        let Some(old) = self.csrs.read(csr, self.mode) else {
-            return self.illegal(bits);
+        let Some(old) = self.csrs.read(access.csr, self.mode) else {
+            return trapped(Cause::Illegal, u64::from(bits));
         };
-        let wanted = written_value(op, old, value);
-        if writes && !self.csrs.write(csr, wanted, self.mode) {
-            return self.illegal(bits);
+        let wanted = written_value(access.op, old, access.value);
+        if access.writes && !self.csrs.write(access.csr, wanted, self.mode) {
+            return trapped(Cause::Illegal, u64::from(bits));
         }
-        put(&mut self.registers, rd, old);
+        put(&mut self.registers, access.rd, old);
         self.pc = after;
+        Ok(())
     }
 
     // A load of this size to a register, with the next instruction at `after`.
     #[inline(always)]
     #[tactic(auto, using(crate::proofs::RegisterLemmas::registers))]
-    fn load_of(&mut self, bus: &Bus, size: Size, rd: u8, extends: bool, at: u64, after: u64)
+    fn load_of(
+        &mut self,
+        bus: &Bus,
+        size: Size,
+        rd: u8,
+        extends: bool,
+        at: u64,
+        after: u64,
+    ) -> Result<(), Trap>
         requires { rd < 32 }
-        ensures step { load_step rd size extends at after (over bus.now self.old) ≡ over bus.now self.new }
+        ensures step { load_step rd size extends at after (over bus.now self.old) ≡ step_of result (over bus.now self.new) }
+        ensures stays { OnErr result (self.new ≡ self.old) }
         ensures run { self.new.run ≡ self.old.run }
         ensures range { IsHart self.new }
     {
@@ -185,16 +194,26 @@ impl Hart {
             Ok(number) => {
                 put(&mut self.registers, rd, loaded(size, extends, number));
                 self.pc = after;
+                Ok(())
             }
-            Err(byte) => self.trap(Cause::LoadAccess, byte),
+            Err(byte) => trapped(Cause::LoadAccess, byte),
         }
     }
 
     // As `load_of`, by a call for each size: each is compiled for its own width.
     #[inline(always)]
-    fn load(&mut self, bus: &Bus, size: Size, rd: u8, extends: bool, at: u64, after: u64)
+    fn load(
+        &mut self,
+        bus: &Bus,
+        size: Size,
+        rd: u8,
+        extends: bool,
+        at: u64,
+        after: u64,
+    ) -> Result<(), Trap>
         requires { rd < 32 }
-        ensures step { load_step rd size extends at after (over bus.now self.old) ≡ over bus.now self.new }
+        ensures step { load_step rd size extends at after (over bus.now self.old) ≡ step_of result (over bus.now self.new) }
+        ensures stays { OnErr result (self.new ≡ self.old) }
         ensures run { self.new.run ≡ self.old.run }
         ensures range { IsHart self.new }
     {
@@ -208,22 +227,43 @@ impl Hart {
 
     // A store of the low bytes of a number, so many as the size says, with the next instruction at `after`.
     #[inline(always)]
-    fn store_of(&mut self, bus: &mut Bus, size: Size, at: u64, value: u64, after: u64)
-        ensures step { store_step size at value after (over bus.old self.old) ≡ over bus.new self.new }
+    fn store_of(
+        &mut self,
+        bus: &mut Bus,
+        size: Size,
+        at: u64,
+        value: u64,
+        after: u64,
+    ) -> Result<(), Trap>
+        ensures step { store_step size at value after (over bus.old self.old) ≡ step_of result (over bus.new self.new) }
+        ensures stays { OnErr result (self.new ≡ self.old) }
+        ensures bus_stays { OnErr result (bus.new ≡ bus.old) }
         ensures run { self.new.run ≡ self.old.run }
         ensures range { IsHart self.new }
         ensures bytes { IsBus bus.old → IsBus bus.new }
     {
         match write(bus, &self.csrs, self.mode, at, size.bytes(), value) {
-            Ok(()) => self.pc = after,
-            Err(byte) => self.trap(Cause::StoreAccess, byte),
+            Ok(()) => {
+                self.pc = after;
+                Ok(())
+            }
+            Err(byte) => trapped(Cause::StoreAccess, byte),
         }
     }
 
     // As `store_of`, by a call for each size.
     #[inline(always)]
-    fn store(&mut self, bus: &mut Bus, size: Size, at: u64, value: u64, after: u64)
-        ensures step { store_step size at value after (over bus.old self.old) ≡ over bus.new self.new }
+    fn store(
+        &mut self,
+        bus: &mut Bus,
+        size: Size,
+        at: u64,
+        value: u64,
+        after: u64,
+    ) -> Result<(), Trap>
+        ensures step { store_step size at value after (over bus.old self.old) ≡ step_of result (over bus.new self.new) }
+        ensures stays { OnErr result (self.new ≡ self.old) }
+        ensures bus_stays { OnErr result (bus.new ≡ bus.old) }
         ensures run { self.new.run ≡ self.old.run }
         ensures range { IsHart self.new }
         ensures bytes { IsBus bus.old → IsBus bus.new }
@@ -238,14 +278,17 @@ impl Hart {
 
     // An effect of an instruction of these bits, with the next one at `after`.
     #[inline(always)]
-    #[tactic(auto, using(crate::proofs::RegisterLemmas::registers), unfolding(crate::specs::HartStep::carried))]
-    fn carry(&mut self, bus: &mut Bus, effect: Effect, bits: u32, after: u64)
+    #[tactic(auto, using(crate::proofs::RegisterLemmas::registers), unfolding(crate::specs::HartStep::effect_step))]
+    fn carry(&mut self, bus: &mut Bus, effect: Effect, bits: u32, after: u64) -> Result<(), Trap>
         requires { IsInRange effect }
-        ensures step { carried effect bits after (over bus.old self.old) ≡ over bus.new self.new }
+        ensures step { effect_step effect bits after (over bus.old self.old) ≡ step_of result (over bus.new self.new) }
+        ensures stays { OnErr result (self.new ≡ self.old) }
+        ensures bus_stays { OnErr result (bus.new ≡ bus.old) }
         ensures run { self.new.run ≡ self.old.run }
         ensures range { IsHart self.new }
         ensures bytes { IsBus bus.old → IsBus bus.new }
     {
+        let mode = self.mode;
         match effect {
             Effect::Pass => self.pc = after,
             Effect::Set { rd, value } => {
@@ -253,8 +296,8 @@ impl Hart {
                 self.pc = after;
             }
             Effect::Jump { rd, target } => {
-                if target % 4 != 0 {
-                    return self.trap(Cause::Misaligned, target);
+                if target % INSTRUCTION_ALIGNMENT != 0 {
+                    return trapped(Cause::Misaligned, target);
                 }
                 put(&mut self.registers, rd, after);
                 self.pc = target;
@@ -264,47 +307,86 @@ impl Hart {
                 size,
                 extends,
                 at,
-            } => self.load(bus, size, rd, extends, at, after),
-            Effect::Store { size, at, value } => self.store(bus, size, at, value, after),
+            } => return self.load(bus, size, rd, extends, at, after),
+            Effect::Store { size, at, value } => return self.store(bus, size, at, value, after),
             Effect::Csr {
                 rd,
                 csr,
                 op,
                 value,
                 writes,
-            } => self.access_csr(bits, after, rd, csr, op, value, writes),
-            Effect::Call => match self.mode {
-                Mode::User => self.trap(Cause::UserCall, 0),
-                Mode::Machine => self.trap(Cause::MachineCall, 0),
-            },
-            Effect::Break => self.trap(Cause::Breakpoint, self.pc),
-            Effect::Return => self.return_from_trap(bits),
-            Effect::Wait => match self.mode {
-                Mode::User => self.illegal(bits),
+            } => {
+                let access = CsrAccess {
+                    rd,
+                    csr,
+                    op,
+                    value,
+                    writes,
+                };
+                return self.access_csr(access, bits, after);
+            }
+            Effect::Call => return trapped(call_cause(mode), 0),
+            Effect::Break => return trapped(Cause::Breakpoint, self.pc),
+            Effect::Return => return self.return_from_trap(bits),
+            Effect::Wait => match mode {
+                Mode::User => return trapped(Cause::Illegal, u64::from(bits)),
                 Mode::Machine => self.pc = after,
             },
         }
+        Ok(())
     }
 
-    // One instruction or its trap.
+    // One instruction, or the trap that it is; nothing has changed then.
     #[inline(always)]
     #[tactic(auto, unfolding(crate::specs::HartStep::instruction_step))]
-    fn execute(&mut self, bus: &mut Bus)
-        ensures step { instruction_step (over bus.old self.old) ≡ over bus.new self.new }
+    fn instruction(&mut self, bus: &mut Bus) -> Result<(), Trap>
+        ensures step { instruction_step (over bus.old self.old) ≡ step_of result (over bus.new self.new) }
+        ensures stays { OnErr result (self.new ≡ self.old) }
+        ensures bus_stays { OnErr result (bus.new ≡ bus.old) }
         ensures run { self.new.run ≡ self.old.run }
         ensures range { IsHart self.new }
         ensures bytes { IsBus bus.old → IsBus bus.new }
     {
         let word = match read(bus, &self.csrs, self.mode, Access::Execute, self.pc, 4) {
             Ok(number) => number as u32,
-            Err(byte) => return self.trap(Cause::FetchAccess, byte),
+            Err(byte) => return trapped(Cause::FetchAccess, byte),
         };
         let Some(insn) = self.decoder.decode(self.pc, word) else {
-            return self.illegal(word);
+            return trapped(Cause::Illegal, u64::from(word));
         };
         let effect = act::<Hart>(insn, self.pc, &self.registers);
         let after = self.pc.wrapping_add(4);
-        self.carry(bus, effect, word, after);
+        self.carry(bus, effect, word, after)
+    }
+
+    // Takes a trap.
+    #[cold]
+    #[tactic(auto, unfolding(crate::specs::HartStep::trap_step))]
+    fn trap(&mut self, trap: Trap)
+        ensures after { self.new ≡ trap_step trap.cause trap.value self.old }
+        ensures run { self.new.run ≡ self.old.run }
+        ensures range { IsHart self.new }
+    {
+        self.pc = self.csrs.enter_trap(
+            u64::from(trap.cause.number()),
+            trap.value,
+            self.pc,
+            self.mode,
+        );
+        self.mode = Mode::Machine;
+    }
+
+    // One instruction, or its trap, which is taken.
+    #[inline(always)]
+    fn execute(&mut self, bus: &mut Bus)
+        ensures step { executing_step (over bus.old self.old) ≡ over bus.new self.new }
+        ensures run { self.new.run ≡ self.old.run }
+        ensures range { IsHart self.new }
+        ensures bytes { IsBus bus.old → IsBus bus.new }
+    {
+        if let Err(trap) = self.instruction(bus) {
+            self.trap(trap);
+        }
     }
 
     // Counts a step that begins in user mode.
@@ -334,12 +416,14 @@ impl Hart {
         }
     }
 
-    /// One step over the bus, where the debug lines ask for nothing; they stay as they are. A held hart begins to run where
-    /// the start word is not 0. One that runs makes one instruction or takes its trap. One that is halted stays as it is.
+    /// One step over the bus and the lines, which may ask for nothing. A held hart begins to run where the start word is not 0.
+    /// One that runs makes one instruction or takes its trap. One that is halted stays as it is.
     #[inline(always)]
+    #[tactic(auto, using(crate::proofs::LinedLaws::lined_step_quiet))]
     pub fn step(&mut self, bus: &mut Bus, lines: &mut DebugLines)
         requires { AreQuiet lines.old }
-        ensures step { over bus.new self.new ≡ hart_step (over bus.old self.old) }
+        ensures step { record { system = over bus.new self.new; lines = lines.new } ≡ lined_step (record { system = over bus.old self.old; lines = lines.old }) }
+        ensures quiet { over bus.new self.new ≡ hart_step (over bus.old self.old) }
         ensures lines_stay { lines.new ≡ lines.old }
         ensures unhalted { IsUnhalted self.old.run → IsUnhalted self.new.run }
         ensures range { IsHart self.new }

@@ -9,11 +9,12 @@
 #![tactic(auto)]
 
 mod access;
-mod causes;
 mod debug;
 mod hart;
+mod laws;
 #[cfg(test)]
 mod tests;
 
 pub use debug::{DebugLines, Job, Run};
 pub use hart::Hart;
+pub use laws::{machine_steps_uncounted, quiet_steps, steps_keep_range};

@@ -81,7 +81,7 @@ Leaves-told w {input} {console} {tree} told = record { input_told = told.input_t
 
 -- a machine that has ended, by its status
 ended_when : (machine : Machine) (status : ℕ) → (machine ≡ ended status) ↔ (status_of machine ≡ Some status)
-ended_when (running state program_break first_break) status = ((λ h. cc), (λ h. cc))
+ended_when (running process) status = ((λ h. cc), (λ h. cc))
 ended_when (dying text s) status = ((λ h. cc), (λ h. cc))
 ended_when (ended s) status = ((λ h. cc), (λ h. cc))
 

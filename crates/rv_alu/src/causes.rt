@@ -1,11 +1,11 @@
-// Why a trap is taken.
-ghost use Rattle.std.specs.Prelude.{◌≡◌};
-ghost use Rattle.rv_hart.specs.HartStep.{cause_number};
+// Why a machine takes a trap.
+ghost use Rattle.std.specs.Prelude.{◌≡◌, ◌<◌};
+ghost use Rattle.rv_alu.specs.Causes.{cause_number};
 
 /// The cause of a trap.
-#[derive(Clone, Copy)]
+#[derive(Clone, Copy, Debug, PartialEq, Eq)]
 pub enum Cause {
-    /// A jump to an address that is no multiple of 4; the value is that address.
+    /// A jump to an address at which no instruction may stand; the value is that address.
     Misaligned,
     /// An instruction that may not be fetched; the value is the byte that is refused.
     FetchAccess,
@@ -23,10 +23,20 @@ pub enum Cause {
     MachineCall,
 }
 
+/// A trap that is to be taken.
+#[derive(Clone, Copy, Debug, PartialEq, Eq)]
+pub struct Trap {
+    /// Why.
+    pub cause: Cause,
+    /// What else is told of it.
+    pub value: u64,
+}
+
 impl Cause {
     /// The number that the Privileged Architecture gives to the cause (3.1.15, mcause).
-    pub fn number(self) -> u64
-        ensures { result ≡ cause_number self }
+    pub fn number(self) -> u8
+        ensures value { result ≡ cause_number self }
+        ensures small { result < 16 }
     {
         match self {
             Cause::Misaligned => 0,
