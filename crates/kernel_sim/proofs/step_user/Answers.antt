@@ -5,4 +5,4 @@ use Rattle.kernel_sim.proofs.step_user.Goals as goal
 
 pub returns-clause-step : goal.returns-clause-step
 returns-clause-step c =
-    c.step.ensures.step ∙ user_steps_agree (over c.args.bus.now c.args.hart.now) c.requires.running c.requires.mode c.requires.fenced
+    c.step.ensures.quiet ∙ user_steps_agree (over c.args.bus.now c.args.hart.now) c.requires.running c.requires.mode c.requires.fenced
