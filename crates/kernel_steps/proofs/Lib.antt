@@ -1,0 +1,4 @@
+pub mod Soundness
+pub mod GraphLaws
+pub mod Rebase
+pub mod Tests

@@ -1,0 +1,4 @@
+pub mod Terms
+pub mod States
+pub mod Successors
+pub mod Blocks
