@@ -1,0 +1,12 @@
+pub mod HeldLemmas
+pub mod ContentLemmas
+pub mod OpenLemmas
+pub mod GapLemmas
+pub mod NameLemmas
+pub mod TreeLemmas
+pub mod PutLemmas
+pub mod RemoveLemmas
+pub mod TextLemmas
+pub mod FilledLemmas
+pub mod KindLemmas
+pub mod StandingLemmas
