@@ -1,11 +1,10 @@
 -- A new file, and how it is taken back.
-use Rattle.std.proofs.Common.{◌≡◌, ◌<◌, ◌≤◌, ◌^◌, ◌+◌, ℕ, Bool, true, false, cond, List, [], length, refl, ap, sym, ◌∙◌, subst, arith, unwrap_or, Option, Some, None, IsSome, Result, Ok, Err, OnOk, OnErr, ◌⊎◌, inl, inr}
+use Rattle.std.proofs.Common.{◌≡◌, ◌<◌, ◌^◌, ◌+◌, ℕ, Bool, true, false, cond, List, [], length, refl, ap, sym, ◌∙◌, subst, unwrap_or, Option, Some, None, Result, Ok, Err, OnOk, OnErr}
 use Rattle.std.specs.Prelude.{is_err}
 use Rattle.std.specs.FinMap as map
 use Rattle.std.specs.FinMap.{same_map, get-insert, get-remove, nat_cmp-IsAntisymmetric}
 use Rattle.std.specs.Ordering.{nat_cmp, eq_by_cmp}
 use Rattle.std.specs.Cmp.{nat_cmp_total}
-use Rattle.std.proofs.lemmas.Bool.{cases_Bool}
 use Rattle.folder_tree.specs.Paths.{Parts, parts_cmp}
 use Rattle.folder_tree.specs.Tree.{Entry, stored, Tree, IsWellFormed, kind_of}
 use Rattle.folder_tree.specs.TreeOps.{with_file, created, opened, least_free}

@@ -1,5 +1,5 @@
 -- A name that goes, and its bytes with it.
-use Rattle.std.proofs.Common.{◌≡◌, ◌==◌, ◌&&◌, not, ℕ, Bool, true, false, if◌then◌else◌, List, refl, ap, sym, ◌∙◌, subst, unwrap_or, Some}
+use Rattle.std.proofs.Common.{◌≡◌, ◌==◌, ◌&&◌, not, ℕ, Bool, true, false, if◌then◌else◌, refl, ap, sym, ◌∙◌, subst, unwrap_or, Some}
 use Rattle.std.specs.FinMap as map
 use Rattle.folder_tree.specs.Paths.{Parts}
 use Rattle.folder_tree.specs.Tree.{Tree, IsWellFormed, number_at}

@@ -1,5 +1,5 @@
 -- The text of a path, and that of the path above it.
-use Rattle.std.proofs.Common.{◌≡◌, ◌<◌, ◌≤◌, ◌+◌, ◌==◌, ◌&&◌, ◌≢◌, ℕ, suc, Bool, true, false, cond, not, List, [], ◌∷◌, ◌++◌, length, get_or, take, drop, refl, ap, sym, ◌∙◌, subst, arith, append_assoc, length-append, take-append-drop, ◌⊎◌, inl, inr, Bor, Option, Some, None, MatchOption}
+use Rattle.std.proofs.Common.{◌≡◌, ◌<◌, ◌+◌, ◌==◌, ◌&&◌, ℕ, Bool, true, false, cond, not, List, [], ◌∷◌, ◌++◌, length, take, drop, refl, ap, sym, ◌∙◌, arith, length-append, take-append-drop, inl, inr, Bor, Option, Some, None, MatchOption}
 use Rattle.std.specs.List.{All, onto_first}
 use Rattle.std.specs.Str.{bytes_eq}
 use Rattle.std.specs.Bool.{Decides}
@@ -7,14 +7,14 @@ use Rattle.std.proofs.lemmas.Slice.Eq.{bytes_eq-Decides}
 use Rattle.std.proofs.Math.Seq.{take-append_seam}
 use Rattle.std.specs.Cmp.Lexicographic.{slice_cmp}
 use Rattle.std.specs.Ordering.{nat_cmp, eq_by_cmp}
-use Rattle.std.proofs.lemmas.Bool.{cases_Bool, eqb-true, eq-eqb, ne_eqb}
+use Rattle.std.proofs.lemmas.Bool.{cases_Bool, eqb-true, eq-eqb}
 use Rattle.std.proofs.lemmas.List.{append_cancel_right}
 use Rattle.std.proofs.lemmas.List.Elements.{filter-append}
 use Rattle.std.proofs.lemmas.List.Splits.{slice_split-cons_yes, slice_split-cons_no, slice_split_none}
 use Rattle.folder_tree.specs.Paths.{Parts, is_skipped, parts_of, path_text, pieces_of}
 use Rattle.folder_tree.specs.TreeOps.{is_below}
 use Rattle.folder_tree.specs.RemoveDirLaws.{below-longer}
-use Rattle.folder_tree.proofs.PathLemmas.{Good, kept, parts_of-good, parts_of-path_text, parts_of-short, path_text-more, some_pieces}
+use Rattle.folder_tree.proofs.PathLemmas.{kept, parts_of-short, path_text-more, some_pieces}
 use Rattle.folder_memory.specs.Names.{IsLast, IsPathText, stands_below, starts_below}
 use Rattle.folder_memory.proofs.NameLemmas.{equal_tests, text-IsPathText, text-same}
 
@@ -75,10 +75,10 @@ IsAbove-slash text front back is plain path =
     let all : parts_of text ≡ parts_of front ++ kept (back ∷ []) = ap parts_of is ∙ parts_of-append front back ∙ ap (λ ps. parts_of front ++ ps) one in
     elim (cases_Bool (is_skipped back)) as (λ _. IsAbove text front) [
       | inl skipped ↦ absurd (
-        let same : parts_of text ≡ parts_of front = all ∙ ap (λ ps. parts_of front ++ ps) (kept-skipped back (is_skipped back) refl skipped) ∙ append-nothing (parts_of front) in
-        let size : length (path_text (parts_of text)) ≡ length text = ap length path in
-        let short : length (path_text (parts_of text)) ≡ length (path_text (parts_of front)) = ap (λ ps. length (path_text ps)) same in
-        omega (arith, size, short, parts_of-short front, ap length is, longer front back))
+          let same : parts_of text ≡ parts_of front = all ∙ ap (λ ps. parts_of front ++ ps) (kept-skipped back (is_skipped back) refl skipped) ∙ append-nothing (parts_of front) in
+          let size : length (path_text (parts_of text)) ≡ length text = ap length path in
+          let short : length (path_text (parts_of text)) ≡ length (path_text (parts_of front)) = ap (λ ps. length (path_text ps)) same in
+          omega (arith, size, short, parts_of-short front, ap length is, longer front back))
       | inr part ↦
           let parts : parts_of text ≡ parts_of front ++ back ∷ [] = all ∙ ap (λ ps. parts_of front ++ ps) (kept-part back (is_skipped back) refl part) in
           record {
@@ -170,13 +170,13 @@ pub stands_below-is_below : (text name : List ℕ) → IsPathText text → IsPat
 stands_below-is_below text name path name_path some =
     equal_tests (stands_below text name) (is_below (parts_of text) (parts_of name))
     (λ e.
-      let rest = behind text name e in
-      let all : parts_of name ≡ parts_of text ++ parts_of rest.0 = ap parts_of rest.1 ∙ parts_of-append text rest.0 in
-      ap (is_below (parts_of text)) all ∙ above-some (parts_of text) (parts_of rest.0) text name rest.0 path rest.1 (ap path_text (sym all) ∙ name_path))
+    let rest = behind text name e in
+    let all : parts_of name ≡ parts_of text ++ parts_of rest.0 = ap parts_of rest.1 ∙ parts_of-append text rest.0 in
+    ap (is_below (parts_of text)) all ∙ above-some (parts_of text) (parts_of rest.0) text name rest.0 path rest.1 (ap path_text (sym all) ∙ name_path))
     (λ e.
-      let rest = below-is (parts_of text) (parts_of name) e in
-      let all : name ≡ text ++ 47 ∷ path_text (rest.0 ∷ rest.1) = sym name_path ∙ ap path_text rest.2 ∙ more (parts_of text) rest.0 rest.1 some ∙ ap (λ t. t ++ 47 ∷ path_text (rest.0 ∷ rest.1)) path in
-      ap (stands_below text) all ∙ stands text (path_text (rest.0 ∷ rest.1)))
+    let rest = below-is (parts_of text) (parts_of name) e in
+    let all : name ≡ text ++ 47 ∷ path_text (rest.0 ∷ rest.1) = sym name_path ∙ ap path_text rest.2 ∙ more (parts_of text) rest.0 rest.1 some ∙ ap (λ t. t ++ 47 ∷ path_text (rest.0 ∷ rest.1)) path in
+    ap (stands_below text) all ∙ stands text (path_text (rest.0 ∷ rest.1)))
   where
     more : (parts : Parts) (part : List ℕ) (rest : Parts) → (parts ≡ [] → ⊥) → path_text (parts ++ part ∷ rest) ≡ path_text parts ++ 47 ∷ path_text (part ∷ rest)
     more [] part rest some = absurd (some refl)

@@ -1,10 +1,10 @@
 -- The tree of names, contents and opens stays well formed.
-use Rattle.std.proofs.Common.{◌≡◌, ◌<◌, ◌^◌, ◌+◌, ◌-◌, ◌==◌, ◌&&◌, not, ℕ, Bool, true, false, if◌then◌else◌, List, [], length, refl, ap, sym, ◌∙◌, subst, arith, unwrap_or}
+use Rattle.std.proofs.Common.{◌≡◌, ◌<◌, ◌^◌, ◌+◌, ◌==◌, ◌&&◌, not, ℕ, Bool, true, if◌then◌else◌, List, [], length, ap, sym, ◌∙◌, subst, arith, unwrap_or}
 use Rattle.std.specs.FinMap as map
 use Rattle.std.specs.Ordering.{nat_cmp}
 use Rattle.folder_tree.specs.Paths.{Parts, parts_cmp}
 use Rattle.folder_tree.specs.Tree.{Entry, directory, Tree, empty_tree, IsWellFormed, opens_of, bytes_of, kind_of}
-use Rattle.folder_tree.specs.TreeOps.{holding, written, sized, opened, released, fewer_opens, is_named}
+use Rattle.folder_tree.specs.TreeOps.{written, sized, released, fewer_opens, is_named}
 use Rattle.folder_tree.specs.Laws.{opened-IsWellFormed, released-IsWellFormed, named-bytes, empty_tree-IsWellFormed}
 use Rattle.folder_tree.specs.RowLaws.{holding-IsWellFormed, length-written, length-sized, bytes-small, with_directory-IsWellFormed}
 use Rattle.folder_tree.specs.declared.folder.PathKind.TheVariants.{Free}

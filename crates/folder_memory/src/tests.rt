@@ -1,5 +1,6 @@
 use super::*;
 use folder_tree::{PathKind, read_path};
+use std::alloc::Global;
 use std::process::Abort;
 use std::test::Fail;
 
@@ -46,25 +47,28 @@ fn a_file_is_written_and_cut(rt: HostRuntime) -> Result<(), Fail> {
     assert_eq!(rt; tree.open_bytes(number), b"\0\0xyz".as_slice());
     assert!(rt; tree.is_open(number));
     tree.fit(number, 3)?;
-    assert!(rt; tree.file(&new).is_some_and(|bytes| bytes == b"\0\0x".as_slice()));
+    assert!(rt;
+        tree.file(&new)
+            .is_some_and(|bytes| bytes == b"\0\0x".as_slice())
+    );
     Ok(())
 }
 
 #[test]
 fn a_removed_file_stays_while_it_is_open(rt: HostRuntime) -> Result<(), Fail> {
     let mut tree = some_tree(&rt, rt.alloc())?;
-    let file = read_path(b"f")?;
-    let Some(number) = tree.number(&file) else {
-        return Ok(());
-    };
-    tree.open(number)?;
-    assert!(rt; tree.number(&file) == Some(number));
-    tree.remove(&file, number);
-    assert!(rt; tree.file(&file).is_none() && tree.is_open(number));
+    let new = read_path(b"g")?;
+    assert!(rt; matches!(tree.kind(&new), PathKind::Free));
+    let number = tree.create(&new)?;
+    assert!(rt; tree.number(&new) == Some(number));
+    tree.remove(&new, number);
+    assert!(rt; tree.file(&new).is_none() && tree.is_open(number));
+    tree.write(number, 0, b"abc")?;
+    assert!(rt; tree.is_open(number));
     assert_eq!(rt; tree.open_bytes(number), b"abc".as_slice());
     tree.release(number);
-    assert!(rt; !tree.is_open(number) && matches!(tree.kind(&file), PathKind::Free));
-    assert_eq!(rt; tree.put(&file, Vec::new(rt.alloc()))?, 0);
+    assert!(rt; !tree.is_open(number) && matches!(tree.kind(&new), PathKind::Free));
+    assert_eq!(rt; tree.put(&new, Vec::new(rt.alloc()))?, number);
     Ok(())
 }
 

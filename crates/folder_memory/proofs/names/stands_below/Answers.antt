@@ -1,4 +1,4 @@
-use Rattle.std.proofs.Common.{◌≡◌, sym, ◌∙◌}
+use Rattle.std.proofs.Common.{◌∙◌}
 use Rattle.folder_memory.proofs.TextLemmas.{below-none, below-some}
 use Rattle.folder_memory.proofs.names.stands_below.Goals as goal
 

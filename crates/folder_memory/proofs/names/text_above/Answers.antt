@@ -1,4 +1,4 @@
-use Rattle.std.proofs.Common.{◌≡◌, length, take, subst, arith, ap, List, ℕ, rules, sym}
+use Rattle.std.proofs.Common.{◌≡◌, take, subst, arith, List, ℕ, rules, sym}
 use Rattle.std.proofs.lemmas.Str.Pattern.{rfind_char}
 use Rattle.folder_tree.specs.Paths.{parts_of}
 use Rattle.folder_memory.specs.Names.{IsLast, IsPathText}

@@ -3,7 +3,6 @@ use Rattle.std.specs.BTreeMap as tree
 use Rattle.std.specs.List.{list_any}
 use Rattle.folder_memory.specs.Names.{stands_below}
 use Rattle.folder_memory.proofs.FilledLemmas.{any-end, any-filled, any-met}
-use Rattle.folder_memory.proofs.NameLemmas.{text-IsPathText}
 use Rattle.folder_memory.proofs.TextLemmas.{filled-law}
 use Rattle.folder_memory.proofs.names.Names.is_filled.Goals as goal
 

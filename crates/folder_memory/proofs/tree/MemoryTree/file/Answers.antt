@@ -1,4 +1,4 @@
-use Rattle.std.proofs.Common.{ap, subst, sym, ◌∙◌, ◌≡◌}
+use Rattle.std.proofs.Common.{ap, subst, sym, ◌∙◌}
 use Rattle.std.specs.FinMap as map
 use Rattle.folder_tree.specs.Tree.{IsWellFormed, Tree}
 use Rattle.folder_memory.proofs.KindLemmas.{file-bytes}
