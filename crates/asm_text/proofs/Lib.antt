@@ -2,6 +2,10 @@ pub mod Back
 pub mod Cleanly
 pub mod Cutting
 pub mod Digits
+pub mod FaultLines
+pub mod FaultLow
+pub mod FaultOperands
+pub mod FaultPlaces
 pub mod Forms
 pub mod ItemBack
 pub mod LineLemmas

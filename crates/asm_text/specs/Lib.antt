@@ -1,4 +1,5 @@
 pub mod Faults
+pub mod FirstFault
 pub mod Layout
 pub mod Pieces
 pub mod Printing

@@ -1,4 +1,4 @@
--- What a text of assembly stands for: its items with their lines, or its first fault.
+-- What a line of assembly stands for: its item, if it has one, or its first fault from the left.
 use Rattle.std.specs.Prelude.{◌≡◌, ℕ, pos, negsuc, Bool, true, false, ◌==◌, ◌&&◌, nat_lt, if◌then◌else◌, List, Option}
 use Rattle.std.specs.Prelude.{Some, None, Result, Ok, Err}
 use Rattle.std.specs.Int.{w64, cast_unsigned}

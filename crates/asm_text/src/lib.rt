@@ -2,8 +2,9 @@
 //
 // `read_asm` gives exactly the items of a text, each with its line, or the first fault; any bytes are a
 // text. `specs/Layout` says what lines, comments and blanks are, `specs/Pieces` what an operand stands for,
-// `specs/Reading` what a line stands for and which fault of a line is the first, `specs/Texts` what a whole
-// text does. `print_asm` writes items as `specs/Printing` says, and what it wrote reads back as these items.
+// `specs/Reading` what a line stands for, `specs/Texts` what a whole text does. `specs/FirstFault` lists all
+// faults of a line with their places; the one that `read_asm` tells is the first of them. `print_asm` writes
+// items as `specs/Printing` says, and what it wrote reads back as these items.
 #![tactic(auto)]
 
 mod fault;

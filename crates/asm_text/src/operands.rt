@@ -59,7 +59,8 @@ pub fn last_register(rest: Option<&[u8]>) -> Result<u8, TextKind>
 }
 
 pub fn one_natural(rest: Option<&[u8]>, greatest: u32) -> Result<(u32, Option<&[u8]>), TextKind>
-    ensures value { Gives (λ x. (x.0, option_copied x.1)) result (one (spec_natural greatest) (option_copied rest.entry)) }
+    ensures value { Gives (λ x. (x.0, option_copied x.1)) result
+        (one (spec_natural greatest) (option_copied rest.entry)) }
     ensures bound { IfOk result (λ x. x.0 ≤ greatest) }
 {
     let (piece, more) = next_operand(rest, true)?;

@@ -2,6 +2,7 @@
 ghost use Rattle.std.specs.Prelude.{◌≡◌, ◌≤◌, ◌+◌, ◌*◌, length, All, Ok, IfOk, MatchResult};
 ghost use Rattle.asm_items.specs.ItemMeaning.{total_words};
 ghost use Rattle.asm_items.specs.Printable.{IsPrintable};
+ghost use Rattle.asm_text.specs.FirstFault.{IsFaultless, IsFirstFault};
 ghost use Rattle.asm_text.specs.Reading.{line_item};
 ghost use Rattle.asm_text.specs.Texts.{Puts, Refuses, text_items};
 
@@ -40,6 +41,7 @@ fn put(found: &mut AsmText, line: u64, text: &[u8]) -> Result<(), TextFault>
 pub fn read_asm(alloc: Global, text: &[u8]) -> Result<AsmText, TextFault>
     ensures read { MatchResult result (λ found. text_items text.now ≡ Ok (found.items, found.lines))
         (λ fault. Refuses fault (text_items text.now)) }
+    ensures order { MatchResult result (λ found. IsFaultless text.now) (λ fault. IsFirstFault fault text.now) }
     ensures paired { IfOk result (λ found. length found.lines ≡ length found.items) }
     ensures printable { IfOk result (λ found. All IsPrintable found.items) }
     ensures size { IfOk result (λ found. total_words found.items ≤ 256 * (length text.now + 1)) }
