@@ -1,0 +1,4 @@
+pub mod Computed
+pub mod Fit
+pub mod PlaceNames
+pub mod Spelled
