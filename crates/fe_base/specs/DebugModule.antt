@@ -7,13 +7,15 @@ use Rattle.fe_base.specs.Outside.{Rose}
 use Rattle.fe_base.specs.declared.wires.DmiOp.{DmiOp}
 use Rattle.fe_base.specs.declared.wires.DmiOp.TheVariants.{Nop, Read, Write}
 
--- what a halted hart is to do in its next step: move a register to or from the data registers and then perhaps run the program buffer, or run the buffer alone
+-- what a halted hart is to do in its next step: move a register to or from the data registers and then perhaps run the
+-- program buffer, or run the buffer alone
 pub data DebugJob : Type 0 where
   NoJob : DebugJob
   MoveJob : (register : ℕ) (write then_run : Bool) → DebugJob
   BufferJob : DebugJob
 
--- what the module holds: dmactive, haltreq, whether a resume is asked, resumeack, the job, the data registers as one number, the program buffer, and cmderr
+-- what the module holds: dmactive, haltreq, whether a resume is asked, resumeack, the job, the data registers as one
+-- number, the program buffer, and cmderr
 pub record ModuleState : Type 0 where
   pub active : Bool
   pub haltreq : Bool
@@ -94,7 +96,8 @@ register_of m halted address =
 abbrev pub failed_by : ℕ → ModuleState → ModuleState
 failed_by error m = if m.cmderr == 0 then record m { cmderr = error } else m
 
--- a command that is none of those that are built (3.6.1.1): another type, an increment, or a transfer of another size or register
+-- a command that is none of those that are built (3.6.1.1): another type, an increment, or a transfer of another size
+-- or register
 abbrev pub is_unsupported : ℕ → Bool
 is_unsupported command =
     (not (command / 2 ^ 24 == 0) || bit 19 command)
@@ -170,7 +173,8 @@ IsSide (Stopped registers rest) = AreSideRegisters registers
 abbrev pub with_register : List ℕ → ℕ → ℕ → List ℕ
 with_register registers n value = if n == 0 then registers else slice_set registers n value
 
--- the address of a load or a store: a register and a signed offset of 12 bits, modulo 2 ^ 64 (Unprivileged ISA, RV64I, Load and Store Instructions)
+-- the address of a load or a store: a register and a signed offset of 12 bits, modulo 2 ^ 64 (Unprivileged ISA, RV64I,
+-- Load and Store Instructions)
 abbrev pub at_offset : ℕ → ℕ → ℕ
 at_offset base offset = (base + (if nat_lt offset 2048 then offset else offset + (2 ^ 64 - 4096))) % 2 ^ 64
 
@@ -193,7 +197,8 @@ first_step word registers =
 abbrev pub is_single : List ℕ → Bool
 is_single buffer = slice_index buffer 1 == 0x100073
 
--- what the buffer does, as far as it is known: the first word's step, where that is an access of a mapped doubleword and EBREAK is next
+-- what the buffer does, as far as it is known: the first word's step, where that is an access of a mapped doubleword
+-- and EBREAK is next
 abbrev pub known_step : BufferStep → Bool → BufferStep
 known_step (BufferLoad rd at) single = if single && is_beat at then BufferLoad rd at else OtherStep
 known_step (BufferStore at value) single = if single && is_beat at then BufferStore at value else OtherStep
@@ -235,7 +240,8 @@ module _ {V R : Type 0} (ran : V → ℕ → V → Type 0) (touched : V → Acce
       (m' ≡ record m { resume = false; acked = true }) × (side' ≡ Free (resumed registers rest))
   HaltedStep false m registers rest m' side' = JobDone m.job m registers rest m' side'
 
-  -- one step of a hart that is not halted: it halts where that is asked, so that resuming gives its view, or makes a step
+  -- one step of a hart that is not halted: it halts where that is asked, so that resuming gives its view, or makes a
+  -- step
   abbrev pub FreeStep : Bool → ModuleState → V → ModuleState → HartSide V R → Type 0
   FreeStep true m v m' side' = (registers : List ℕ) × (rest : R) × (m' ≡ m) × (side' ≡ Stopped registers rest) × (resumed registers rest ≡ v)
   FreeStep false m v m' side' = (w : V) × (m' ≡ m) × (side' ≡ Free w) × ran v 1 w
@@ -251,7 +257,8 @@ module _ {V R : Type 0} (ran : V → ℕ → V → Type 0) (touched : V → Acce
   SideSteps (suc count) m side m' side' =
       (n : ModuleState) × (between : HartSide V R) × SideStep m side n between × SideSteps count n between m' side'
 
-  -- a turn of a module access: some hart steps, at least one where every pause is positive, and then the access, which leaves the hart
+  -- a turn of a module access: some hart steps, at least one where every pause is positive, and then the access, which
+  -- leaves the hart
   pub record DmiTurned {S : Type 0} (valid positive : S → Type 0) (module_of : S → ModuleState) (side : S → HartSide V R)
       (before : S) (ask : DmiAsk) (reply : ℕ) (after : S) : Type 0 where
     pub steps : ℕ

@@ -7,7 +7,8 @@ pub data PausePlan : Type 0 where
   Listed : (values : List ℕ) → PausePlan
   Shuffled : (seed : ℕ) → PausePlan
 
--- the pause of a seed at a turn: one more than the upper three bits of a linear congruence of 64 bits (its multiplier is that of Knuth's MMIX)
+-- the pause of a seed at a turn: one more than the upper three bits of a linear congruence of 64 bits (its multiplier
+-- is that of Knuth's MMIX)
 abbrev pub shuffled : ℕ → ℕ → ℕ
 shuffled seed turn = 1 + (turn * 6364136223846793005 + seed) % 2 ^ 64 / 2 ^ 61
 

@@ -9,15 +9,18 @@ abbrev pub one_turn : ℕ → Beat → ℕ × ℕ
 one_turn s (ReadBeat at) = (s, s)
 one_turn s (WriteBeat at value) = (value, 0)
 
+-- what an access does to it
 abbrev pub one_touched : ℕ → Access → ℕ → Type 0
 one_touched v (Loaded at value) w = (w ≡ v) × (value ≡ v)
 one_touched v (Stored at value) w = w ≡ value
 one_touched v (StoredLow at value) w = ⊥
 one_touched v (StoredHigh at value) w = ⊥
 
+-- steps leave it
 abbrev pub one_ran : ℕ → ℕ → ℕ → Type 0
 one_ran v n w = w ≡ v
 
+-- reads and writes of it are turns
 pub one-turns : BeatLaw (λ (s : ℕ). s < 2 ^ 64) (λ _. Unit {0}) (λ s. s) one_ran one_touched one_turn
 one-turns s (ReadBeat at) ok here =
     record { steps = 1; between = s; pause = refl; access = (refl, refl); reply_fits = ok; still_valid = ok; some_step = λ _. omega arith; still_positive = λ h. h }
@@ -31,14 +34,17 @@ one_stored (Stored at value) v = value
 one_stored (StoredLow at value) v = v - v % 2 ^ 32 + value
 one_stored (StoredHigh at value) v = joined (v % 2 ^ 32) value
 
+-- a word's step
 abbrev pub one_worded : WordStep → ℕ → (Transfers × ℕ) × Option ℕ
 one_worded (Quiet reply after) v = ((after, v), reply)
 one_worded (Loads at reply after) v = ((after (v % 2 ^ 64), v), Some (reply (v % 2 ^ 64)))
 one_worded (Stores access after) v = ((after, one_stored access v), None)
 
+-- a word
 abbrev pub one_word : Transfers × ℕ → WordAsk → (Transfers × ℕ) × Option ℕ
 one_word s ask = one_worded (word_step s.0 ask) s.1
 
+-- what an access does to it, behind the word link
 abbrev pub one_reached : ℕ → Access → ℕ → Type 0
 one_reached v (Loaded at value) w = w ≡ v
 one_reached v (Stored at value) w = w ≡ one_stored (Stored at value) v
@@ -53,6 +59,7 @@ one-done (Stores (Stored at value) after) v = (refl, refl, refl)
 one-done (Stores (StoredLow at value) after) v = (refl, refl, refl)
 one-done (Stores (StoredHigh at value) after) v = (refl, refl, refl)
 
+-- words are turns
 pub one-words : WordLaw (λ (s : Transfers × ℕ). Unit {0}) (λ _. Unit {0}) (λ s. s.1) (λ s. s.0) one_ran one_reached one_word
 one-words s ask ok here =
     record { steps = 1; between = s.1; pause = refl; done = one-done (word_step s.0 ask) s.1; still_valid = tt; some_step = λ _. omega arith; still_positive = λ h. h }

@@ -1,5 +1,7 @@
--- Transfers of the word link (the TSI protocol of riscv-isa-sim's fesvr): words that are sent and got, and what they do to
--- doublewords. That unmapped words read 0 and are dropped when written, and when a doubleword is touched, is this project's
+-- Transfers of the word link (the TSI protocol of riscv-isa-sim's fesvr): words that are sent and got, and what they do
+-- to
+-- doublewords. That unmapped words read 0 and are dropped when written, and when a doubleword is touched, is this
+-- project's
 -- choice.
 use Rattle.std.specs.Prelude.{◌≡◌, ◌<◌, ℕ, ◌+◌, ◌-◌, ◌*◌, ◌/◌, ◌%◌, ◌^◌, ◌==◌, ◌||◌, Bool, if◌then◌else◌, List, [], ◌∷◌, ◌++◌, length, slice_index, ⊤, Option, Some, None}
 use Rattle.fe_base.specs.Access.{Access, Loaded, Stored, StoredLow, StoredHigh}
@@ -15,7 +17,8 @@ abbrev pub IsWordAsk : WordAsk → Type 0
 IsWordAsk (SendWord word) = word < 2 ^ 32
 IsWordAsk GetWord = ⊤
 
--- words that are owed to the host: how many, from which address on, and the high word of a doubleword that was loaded for its low one
+-- words that are owed to the host: how many, from which address on, and the high word of a doubleword that was loaded
+-- for its low one
 pub record Owed : Type 0 where
   pub count : ℕ
   pub at : ℕ
@@ -44,7 +47,8 @@ pub data WordStep : Type 0 where
 abbrev pub joined : ℕ → ℕ → ℕ
 joined low high = low + high * 2 ^ 32
 
--- the address of a transfer's word; the low two bits of the transfer's address count for nothing, and addresses go on modulo 2 ^ 64
+-- the address of a transfer's word; the low two bits of the transfer's address count for nothing, and addresses go on
+-- modulo 2 ^ 64
 abbrev pub word_place : ℕ → ℕ → ℕ
 word_place at index = (at - at % 4 + 4 * index) % 2 ^ 64
 
@@ -68,7 +72,8 @@ word_of at value = if at % 8 == 0 then value % 2 ^ 32 else value / 2 ^ 32
 abbrev pub high_of : ℕ → ℕ → Option ℕ
 high_of at value = if at % 8 == 0 then Some (value / 2 ^ 32) else None
 
--- a word that is got, where some are owed: the high word of a doubleword that was loaded, or a doubleword is loaded for it
+-- a word that is got, where some are owed: the high word of a doubleword that was loaded, or a doubleword is loaded for
+-- it
 abbrev pub owed_step : Transfers → Option ℕ → WordStep
 owed_step t (Some word) = Quiet (Some word) (transfers_behind t None)
 owed_step t None =
@@ -85,7 +90,9 @@ get_step t = if t.owed.count == 0 then Quiet None t else owed_step t t.owed.high
 abbrev pub stored_if : ℕ → Access → Transfers → WordStep
 stored_if at access after = if is_beat at then Stores access after else Quiet None after
 
--- the store that a data word makes: of the whole doubleword where it is the high word behind the low one; of the high word alone where the transfer begins there; of the low word alone where the transfer ends there; else it waits for the high word
+-- the store that a data word makes: of the whole doubleword where it is the high word behind the low one; of the high
+-- word alone where the transfer begins there; of the low word alone where the transfer ends there; else it waits for
+-- the high word
 abbrev pub data_store : ℕ → List ℕ → ℕ → Bool → Transfers → WordStep
 data_store at before word last after =
     if at % 8 == 4
@@ -94,7 +101,8 @@ data_store at before word last after =
     else Stored (at - 4) (joined (slice_index before (length before - 1)) word)) after
     else (if last then stored_if at (StoredLow at word) after else Quiet None after)
 
--- a data word of a transfer to an address of so many words and one: it is stored, and ends the transfer where it is the last
+-- a data word of a transfer to an address of so many words and one: it is stored, and ends the transfer where it is the
+-- last
 abbrev pub data_step : List ℕ → ℕ → ℕ → List ℕ → ℕ → WordStep
 data_step sent at more before word =
     data_store (word_place at (length before)) before word (length before == more)
@@ -104,7 +112,8 @@ data_step sent at more before word =
 abbrev pub goes_on : List ℕ → WordStep
 goes_on sent = Quiet None (record { sent = sent; owed = nothing_owed })
 
--- a word sent where no word is owed: 0 begins a read and 1 a write, then the address and the number of words less one come, each low word first, and then the words of a write
+-- a word sent where no word is owed: 0 begins a read and 1 a write, then the address and the number of words less one
+-- come, each low word first, and then the words of a write
 abbrev pub send_step : List ℕ → ℕ → WordStep
 send_step [] word = if word == 0 || word == 1 then goes_on (word ∷ []) else goes_on []
 send_step (kind ∷ []) word = goes_on (kind ∷ word ∷ [])

@@ -4,7 +4,8 @@ use Rattle.fe_base.specs.Outside.{Rose}
 use Rattle.fe_base.specs.declared.wires.WireStop.{WireStop}
 use Rattle.fe_base.specs.declared.wires.WireStop.TheVariants.{Spent, Failed}
 
--- where an object tells its state, that state and the next one stand in a relation; one that tells nothing tells nothing afterwards
+-- where an object tells its state, that state and the next one stand in a relation; one that tells nothing tells
+-- nothing afterwards
 abbrev pub OnTold : {S : Type 0} → Option S → Option S → (S → S → Type 0) → Type 0
 OnTold (Some before) (Some after) does = does before after
 OnTold (Some before) None does = ⊥
@@ -16,13 +17,15 @@ abbrev pub IfTold : {S : Type 0} → Option S → (S → Type 0) → Type 0
 IfTold (Some state) holds = holds state
 IfTold None holds = ⊤
 
--- what a call does to the told state: one that is answered is `next` of the state and of what is asked, with that reply; one that fails is `lost` of them; one that is spent leaves the state
+-- what a call does to the told state: one that is answered is `next` of the state and of what is asked, with that
+-- reply; one that fails is `lost` of them; one that is spent leaves the state
 abbrev pub Asked : {S Q R T : Type 0} → (S → Q → S × R) → (S → Q → S × R) → Q → (T → R) → Result T WireStop → S → S → Type 0
 Asked next lost ask reply (Ok value) before after = next before ask ≡ (after, reply value)
 Asked next lost ask reply (Err Failed) before after = after ≡ (lost before ask).0
 Asked next lost ask reply (Err Spent) before after = after ≡ before
 
--- each call makes a transaction and lowers what is left by one, also one that fails; it is spent exactly where none is left
+-- each call makes a transaction and lowers what is left by one, also one that fails; it is spent exactly where none is
+-- left
 abbrev pub Lowers : {T : Type 0} → ℕ → ℕ → Result T WireStop → Type 0
 Lowers before after (Ok value) = before ≡ after + 1
 Lowers before after (Err Failed) = before ≡ after + 1

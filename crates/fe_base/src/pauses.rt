@@ -1,7 +1,7 @@
 // How many hart steps a target makes before each transaction.
 ghost use Rattle.std.specs.Prelude.{◌≡◌, ◌≤◌, ◌<◌, ◌^◌, ◌+◌, ◌*◌, ◌/◌, ◌%◌, ◌⊎◌, ◌↔◌, ℕ, length, IfSome, IsSome};
 ghost use Rattle.arrayvec.specs.ArrayVec.{array_vec_len};
-ghost use Rattle.fe_base.specs.PausePlan.{Listed, Shuffled, IsPauseList, pause_at, shuffled};
+ghost use Rattle.fe_base.specs.PausePlan.{Listed, Shuffled, IsPauseList, IsPausePlan, pause_at, shuffled};
 ghost use Rattle.fe_base.specs.Limits.{pause_limit};
 
 use crate::limits::PAUSE_LIMIT;
@@ -85,5 +85,13 @@ impl Pauses {
             Plan::List(values) => values[(turn % values.len() as u64) as usize],
             Plan::Shuffle(seed) => shuffled_pause(*seed, turn),
         }
+    }
+
+    /// Says that the pauses are within the limits of a list. It does nothing.
+    #[inline(always)]
+    pub fn within_limits(&self)
+        ensures { IsPausePlan self.now }
+    {
+        let _plan = &self.plan;
     }
 }

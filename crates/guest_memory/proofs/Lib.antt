@@ -1,4 +1,5 @@
 pub mod AreaLemmas
+pub mod BeatLemmas
 pub mod BusLemmas
 pub mod MemoryLemmas
 pub mod PartLemmas
