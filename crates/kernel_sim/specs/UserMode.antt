@@ -10,7 +10,8 @@ use Rattle.rv_hart.specs.HartStep.{System, SystemStep, over, instruction_step, a
 use Rattle.rv_hart.specs.declared.debug.Run.TheVariants.{Running}
 use Rattle.plain_machine.specs.UserStep.{UserState, UserStep, next, call, trap, user_step}
 
--- an entry that is OFF and ends where the user area begins, and one from there to the user area's end, for loads, stores and fetches
+-- an entry that is OFF and ends where the user area begins, and one from there to the user area's end, for loads,
+-- stores and fetches
 abbrev pub user_fence : PmpState
 user_fence = record {
   entry0 = record { read = false; write = false; execute = false; tor = false; end = user_start };
@@ -26,9 +27,11 @@ abbrev pub and_written : ℕ → ℕ → Option CsrState → Option CsrState
 and_written number value (Some csrs) = csr_write number value Machine csrs
 and_written number value None = None
 
--- writes of pmpaddr0, pmpaddr1 and pmpcfg0, as the kernel makes them, are legal and fence user mode in, whatever the registers held
+-- writes of pmpaddr0, pmpaddr1 and pmpcfg0, as the kernel makes them, are legal and fence user mode in, whatever the
+-- registers held
 abbrev pub KernelFences : Type 0
-KernelFences = (csrs : CsrState) → IsSomeAnd (and_written 0x3a0 0x0f00 (and_written 0x3b1 0x404000 (and_written 0x3b0 0x4000 (Some csrs)))) IsFenced
+KernelFences = (csrs : CsrState)
+    → IsSomeAnd (and_written 0x3a0 0x0f00 (and_written 0x3b1 0x404000 (and_written 0x3b0 0x4000 (Some csrs)))) IsFenced
 
 -- what a user program sees of a hart over its bus
 abbrev pub user_of : System → UserState
@@ -37,7 +40,10 @@ user_of system = record { pc = system.hart.pc; registers = system.hart.registers
 -- the system with what a user program sees of it
 abbrev pub with_user : UserState → System → System
 with_user state system =
-    record { hart = record system.hart { pc = state.pc; registers = state.registers }; bus = record system.bus { user = state.user } }
+    record {
+      hart = record system.hart { pc = state.pc; registers = state.registers };
+      bus = record system.bus { user = state.user };
+    }
 
 -- a user step on a hart over its bus: the system with its next state, or the trap of its call, or its trap
 abbrev pub seen : UserStep → System → SystemStep
@@ -54,7 +60,8 @@ InstructionsAgree = (system : System) → system.hart.mode ≡ User → IsFenced
 abbrev pub user_step_on : System → System
 user_step_on system = after_step system (seen (user_step (user_of system)) system)
 
--- a step of a running hart in user mode, behind the PMP as the kernel sets it, is the user step, whose call or trap the hart
+-- a step of a running hart in user mode, behind the PMP as the kernel sets it, is the user step, whose call or trap the
+-- hart
 -- takes, and it is counted
 abbrev pub UserStepsAgree : Type 0
 UserStepsAgree = (system : System) → system.hart.run ≡ Running → system.hart.mode ≡ User → IsFenced system.hart.csrs

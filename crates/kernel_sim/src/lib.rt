@@ -1,8 +1,8 @@
 // A user program's steps on a hart, behind the PMP as the kernel sets it.
 //
-// An instruction of a hart in user mode, behind the PMP as the kernel sets it, is the user step of the direct machine: a
-// next state, or a call, or a trap of the same cause and value. The hart's step takes that call or trap. Both are laws of
-// the definitions, the contracts of `instructions_agree` and `user_steps_agree`; `step_user` makes such a step.
+// An instruction of a hart in user mode, behind the PMP as the kernel sets it, is the user step of the direct machine:
+// a next state, or a call, or a trap of the same cause and value. The hart's step takes that call or trap. Both are
+// laws of the definitions, the contracts of `instructions_agree` and `user_steps_agree`; `step_user` makes such a step.
 // `kernel_fences` says that the kernel's three writes set that PMP.
 //
 // Nothing here takes memory.

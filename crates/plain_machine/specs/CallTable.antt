@@ -21,18 +21,21 @@ pub record Reply : Type 0 where
   pub answer : ℕ
   pub puts : List ℕ
 
--- what a call does: it returns with a reply, it answers the break that it leaves, it ends the program with a status, or it is not built
+-- what a call does: it returns with a reply, it answers the break that it leaves, it ends the program with a status, or
+-- it is not built
 pub data Call : Type 0 where
   replies : Reply → Call
   breaks : ℕ → Call
   exits : ℕ → Call
   unbuilt : Call
 
--- the numbers of the calls that are not built: mkdirat, unlinkat, ftruncate, faccessat, openat, close, lseek, read, pread64, pwrite64 and fstat (Linux, include/uapi/asm-generic/unistd.h)
+-- the numbers of the calls that are not built: mkdirat, unlinkat, ftruncate, faccessat, openat, close, lseek, read,
+-- pread64, pwrite64 and fstat (Linux, include/uapi/asm-generic/unistd.h)
 abbrev pub unbuilt_numbers : List ℕ
 unbuilt_numbers = 34 ∷ 35 ∷ 46 ∷ 48 ∷ 56 ∷ 57 ∷ 62 ∷ 63 ∷ 67 ∷ 68 ∷ 80 ∷ []
 
--- the table by number: write 64, exit 93, exit_group 94 and brk 214, the calls that are not built, and no other (Linux, include/uapi/asm-generic/unistd.h)
+-- the table by number: write 64, exit 93, exit_group 94 and brk 214, the calls that are not built, and no other (Linux,
+-- include/uapi/asm-generic/unistd.h)
 unfoldable pub service_of : ℕ → Service
 service_of number =
     if number == 64 then Write
@@ -65,16 +68,22 @@ is_console number = number == 1 || number == 2
 abbrev pub write_count : UserState → ℕ
 write_count state = min (argument state 2) transfer_limit
 
--- write of open number a0, buffer a1, count a2: EFAULT, then EBADF by the low 32 bits of the number; else the buffer is put
+-- write of open number a0, buffer a1, count a2: EFAULT, then EBADF by the low 32 bits of the number; else the buffer is
+-- put
 abbrev pub write_reply : UserState → Reply
 write_reply state =
     if not (is_buffer (argument state 1) (write_count state)) then refusal EFAULT
     else if not (is_console (argument state 0 % 2 ^ 32)) then refusal EBADF
-    else record { answer = write_count state; puts = take (write_count state) (drop (argument state 1 - user_start) state.user) }
+    else record {
+      answer = write_count state;
+      puts = take (write_count state) (drop (argument state 1 - user_start) state.user);
+    }
 
--- the break that brk leaves: the one that is asked for, if it is neither below the first break nor above the greatest; else the one before
+-- the break that brk leaves: the one that is asked for, if it is neither below the first break nor above the greatest;
+-- else the one before
 abbrev pub new_break : Process → ℕ → ℕ
-new_break process asked = if nat_le process.first_break asked && nat_le asked greatest_break then asked else process.program_break
+new_break process asked =
+    if nat_le process.first_break asked && nat_le asked greatest_break then asked else process.program_break
 
 -- what a call of the table does; a status is the low 8 bits of a0, and a number outside the table is refused
 abbrev pub call_for : Service → Process → Call

@@ -23,7 +23,8 @@ pub record World : Type 0 where
   pub console : List ℕ
   pub tree : Tree
 
--- a machine runs a program; or it is dying, with the text that is left of its last words and its status; or it has ended with a status
+-- a machine runs a program; or it is dying, with the text that is left of its last words and its status; or it has
+-- ended with a status
 pub data Machine : Type 0 where
   running : Process → Machine
   dying : List ℕ → ℕ → Machine
@@ -52,12 +53,14 @@ with_break process moved = record process { state = answered process.state moved
 
 -- what a call leaves: a reply's answer and its bytes on the console, the break as the answer, or the end
 abbrev pub after_call : Process → World → Call → DirectState
-after_call process w (replies reply) = in_world (running (replied process reply.answer)) (record w { console = w.console ++ reply.puts })
+after_call process w (replies reply) =
+    in_world (running (replied process reply.answer)) (record w { console = w.console ++ reply.puts })
 after_call process w (breaks moved) = in_world (running (with_break process moved)) w
 after_call process w (exits status) = in_world (ended status) w
 after_call process w unbuilt = in_world (running process) w
 
--- what a trap leaves: the last words, with status 124 where an illegal instruction asks for a counter, else with 128 and the
+-- what a trap leaves: the last words, with status 124 where an illegal instruction asks for a counter, else with 128
+-- and the
 -- cause's number
 abbrev pub after_trap : ℕ → Cause → ℕ → Machine
 after_trap pc cause value =
@@ -70,11 +73,13 @@ after_step process w (next moved) = in_world (running (record process { state = 
 after_step process w call = after_call process w (call_of process)
 after_step process w (trap cause value) = in_world (after_trap process.state.pc cause value) w
 
--- one step of a machine over a world: a user step; one byte of the last words, or the end behind them; one that has ended stays
+-- one step of a machine over a world: a user step; one byte of the last words, or the end behind them; one that has
+-- ended stays
 abbrev pub machine_step : Machine → World → DirectState
 machine_step (running process) w = after_step process w (user_step process.state)
 machine_step (dying [] status) w = in_world (ended status) w
-machine_step (dying (byte ∷ text) status) w = in_world (dying text status) (record w { console = w.console ++ byte ∷ [] })
+machine_step (dying (byte ∷ text) status) w =
+    in_world (dying text status) (record w { console = w.console ++ byte ∷ [] })
 machine_step (ended status) w = in_world (ended status) w
 
 -- the direct step
@@ -109,14 +114,20 @@ loaded (segment ∷ segments) user = loaded segments (placed user segment.addres
 abbrev pub first_bytes : Image → List (List ℕ) → List ℕ
 first_bytes image args = placed (loaded image.segments (zeros user_size)) stack_top (main_vars_text args stack_top)
 
--- the user state at the start: pc is the entry, sp the stack's top, and every other register 0 (RISC-V ELF psABI, sp is x2)
+-- the user state at the start: pc is the entry, sp the stack's top, and every other register 0 (RISC-V ELF psABI, sp is
+-- x2)
 abbrev pub first_state : Image → List (List ℕ) → UserState
-first_state image args = record { pc = image.entry; registers = slice_set (zeros 32) 2 stack_top; user = first_bytes image args }
+first_state image args =
+    record { pc = image.entry; registers = slice_set (zeros 32) 2 stack_top; user = first_bytes image args }
 
 -- the machine of an image and its arguments before its first step; its break is its first break
 abbrev pub first_machine : Image → List (List ℕ) → Machine
 first_machine image args =
-    running (record { state = first_state image args; program_break = image.first_break; first_break = image.first_break })
+    running (record {
+      state = first_state image args;
+      program_break = image.first_break;
+      first_break = image.first_break;
+    })
 
 -- the direct start, from a world
 abbrev pub direct_start : Image → List (List ℕ) → World → DirectState
@@ -189,7 +200,8 @@ pub record Tells (w : World) (input console : Option (List ℕ)) (tree : Option 
   pub tree_told : tree ≡ Some w.tree
 
 -- the machine and the told objects stand at this state
-pub record IsAt (state : DirectState) (plain : PlainState) (input console : Option (List ℕ)) (tree : Option Tree) : Type 0 where
+pub record IsAt (state : DirectState) (plain : PlainState) (input console : Option (List ℕ)) (tree : Option Tree)
+    : Type 0 where
   pub machine : plain.machine ≡ state.machine
   pub world : Tells state.world input console tree
 

@@ -53,7 +53,10 @@ user_load state at count = load state.user (at - user_start) count
 abbrev pub load_step : ℕ → Size → Bool → ℕ → ℕ → UserState → UserStep
 load_step rd size extends at after state =
     unless (outside at (bytes size)) LoadAccess
-    (next (record state { pc = after; registers = put state.registers rd (loaded size extends (user_load state at (bytes size))) }))
+    (next (record state {
+      pc = after;
+      registers = put state.registers rd (loaded size extends (user_load state at (bytes size)));
+    }))
 
 -- a store of a number, with the next instruction at `after` (Unprivileged ISA, RV64I, Load and Store Instructions)
 abbrev pub store_step : Size → ℕ → ℕ → ℕ → UserState → UserStep
@@ -61,11 +64,13 @@ store_step size at value after state =
     unless (outside at (bytes size)) StoreAccess
     (next (record state { pc = after; user = store state.user (at - user_start) (bytes size) value }))
 
--- an effect carried out, for an instruction of these bits, with the next one at `after` (Unprivileged ISA, 2.5 to 2.8; Privileged
+-- an effect carried out, for an instruction of these bits, with the next one at `after` (Unprivileged ISA, 2.5 to 2.8;
+-- Privileged
 -- Architecture, 3.1.15 and 3.1.16 for the causes and values of traps)
 unfoldable pub effect_step : Effect → ℕ → ℕ → UserState → UserStep
 effect_step Pass bits after state = next (record state { pc = after })
-effect_step (Set rd value) bits after state = next (record state { pc = after; registers = put state.registers rd value })
+effect_step (Set rd value) bits after state =
+    next (record state { pc = after; registers = put state.registers rd value })
 effect_step (Jump rd target) bits after state =
     if target % instruction_alignment == 0
     then next (record state { pc = target; registers = put state.registers rd after })
@@ -80,7 +85,8 @@ effect_step Wait bits after state = trap Illegal bits
 
 -- the instruction of these bits and this length, if there is one, done at pc
 abbrev pub insn_step : Option Insn → ℕ → ℕ → UserState → UserStep
-insn_step (Some insn) bits length state = effect_step (effect_of insn state.pc state.registers) bits ((state.pc + length) % 2 ^ 64) state
+insn_step (Some insn) bits length state =
+    effect_step (effect_of insn state.pc state.registers) bits ((state.pc + length) % 2 ^ 64) state
 insn_step None bits length state = trap Illegal bits
 
 -- the word at pc
@@ -126,6 +132,7 @@ unfolding walked
 walked-zero state = refl
 
 -- one step more is the step of the state reached
-pub walked-next : (n : ℕ) (state : UserState) → walked (n + 1) state ≡ state_after (user_step (walked n state)) (walked n state)
+pub walked-next : (n : ℕ) (state : UserState)
+    → walked (n + 1) state ≡ state_after (user_step (walked n state)) (walked n state)
 unfolding walked
 walked-next n state = ap (λ k. walked k state) (add-one n)

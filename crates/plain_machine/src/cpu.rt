@@ -263,8 +263,8 @@ impl Cpu {
         self.carry(effect, word, self.pc.wrapping_add(4))
     }
 
-    /// User steps that move on, at most so many: how many were made, and the call or the trap that came next, or Moved where
-    /// none did. A call and a trap are not counted, and leave the state as it was.
+    /// User steps that move on, at most so many: how many were made, and the call or the trap that came next, or Moved
+    /// where none did. A call and a trap are not counted, and leave the state as it was.
     // Out of line, since it has two callers: `execute`, with all that it calls, is to stand in the program once.
     #[inline(never)]
     pub fn walk(&mut self, most: u64) -> (u64, Outcome)

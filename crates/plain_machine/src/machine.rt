@@ -78,8 +78,8 @@ impl Machine {
         }
     }
 
-    /// Steps, at most so many, as long as each is an instruction that moves the program on; how many were made. They leave the
-    /// console, the input and the files alone.
+    /// Steps, at most so many, as long as each is an instruction that moves the program on; how many were made. They
+    /// leave the console, the input and the files alone.
     pub fn walk(&mut self, most: u64) -> u64
         ensures after { (w : World) → direct_after result (in_world self.old w) ≡ in_world self.new w }
         ensures each { (w : World) (n : ℕ) → n < result → moves_on (direct_after n (in_world self.old w)).machine ≡ true }

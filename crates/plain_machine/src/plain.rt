@@ -60,8 +60,8 @@ impl Plain {
     ghost use Rattle.folder_tree.specs.Paths.{path_text};
     ghost use Rattle.plain_machine.specs.Direct.{World, Tells, IsAt, HasRoomFor, ended, status_of, direct_step, direct_after, direct_of, is_built, moves_on, step_puts, first_machine};
 
-    /// A program before its first step: its image and its arguments stand in the user area. The root is where the paths of
-    /// its calls begin; no call that is built names a path, so nothing keeps it.
+    /// A program before its first step: its image and its arguments stand in the user area. The root is where the paths
+    /// of its calls begin; no call that is built names a path, so nothing keeps it.
     pub fn start(alloc: Global, image: Image, args: &Words, root: Path) -> Result<Plain, AllocError>
         requires fit { IsFit image }
         requires arguments { main_vars_length args.now ≤ MAIN_VARS_LIMIT }
@@ -98,7 +98,8 @@ impl Plain {
         ensures status { IfOk result (λ status. status ≡ status_of self.new.machine) }
         ensures counted { OnOk result (self.new.steps ≡ (if is_some (status_of self.old.machine) then self.old.steps else self.old.steps + 1)) }
 
-        // A fault leaves the machine and what the objects tell; the next step is not built exactly where that is answered.
+        // A fault leaves the machine and what the objects tell; the next step is not built exactly where that is
+        // answered.
         ensures kept { OnErr result (self.new ≡ self.old) }
         ensures told { OnErr result ((w : World)
             → Tells w (I.left input.old) (C.held console.old) (F.tree folder.old)
@@ -203,8 +204,8 @@ impl Plain {
         }
     }
 
-    // Steps that move the program on and do nothing else, until the next one is another or this limit's steps were made, those
-    // of earlier calls among them.
+    // Steps that move the program on and do nothing else, until the next one is another or this limit's steps were
+    // made, those of earlier calls among them.
     fn walk(&mut self, limit: u64)
         ensures after { (w : World) → direct_after (self.new.steps - self.old.steps) (direct_of self.old w) ≡ direct_of self.new w }
         ensures each { (w : World) (n : ℕ) → n < self.new.steps - self.old.steps → moves_on (direct_after n (direct_of self.old w)).machine ≡ true }

@@ -19,11 +19,13 @@ use Rattle.rv_alu.specs.declared.effects.CsrOp.TheVariants.{Write, SetBits, Clea
 abbrev pub read : List ℕ → ℕ → ℕ
 read registers n = slice_index registers n
 
--- the registers after a write; x0 is hardwired to zero and stays (Unprivileged ISA, RV32I, Programmers' Model for Base Integer ISA)
+-- the registers after a write; x0 is hardwired to zero and stays (Unprivileged ISA, RV32I, Programmers' Model for Base
+-- Integer ISA)
 unfoldable pub put : List ℕ → ℕ → ℕ → List ℕ
 put registers rd value = if rd == 0 then registers else slice_set registers rd value
 
--- the 20 bits of an upper immediate over 12 zeros, sign-extended from 32 bits (Unprivileged ISA, RV64I, Integer Register-Immediate Instructions)
+-- the 20 bits of an upper immediate over 12 zeros, sign-extended from 32 bits (Unprivileged ISA, RV64I, Integer
+-- Register-Immediate Instructions)
 abbrev pub upper : ℕ → ℕ
 upper imm = register_of (signed_word (imm * 2 ^ 12))
 
@@ -47,7 +49,8 @@ bytes Half = 2
 bytes Word = 4
 bytes Double = 8
 
--- a number of so many bytes as a load leaves it in a register, sign-extended or zero-extended (Unprivileged ISA, RV64I, Load and Store Instructions)
+-- a number of so many bytes as a load leaves it in a register, sign-extended or zero-extended (Unprivileged ISA, RV64I,
+-- Load and Store Instructions)
 abbrev pub loaded : Size → Bool → ℕ → ℕ
 loaded size false number = number
 loaded Byte true number = register_of (cast_signed w8 number)
@@ -55,18 +58,25 @@ loaded Half true number = register_of (cast_signed w16 number)
 loaded Word true number = register_of (cast_signed w32 number)
 loaded Double true number = number
 
--- the effect of an instruction at pc over the registers (Unprivileged ISA, RV32I, RV64I, Zifencei, Zicsr and the M extension; Privileged Architecture, MRET and WFI)
+-- the effect of an instruction at pc over the registers (Unprivileged ISA, RV32I, RV64I, Zifencei, Zicsr and the M
+-- extension; Privileged Architecture, MRET and WFI)
 unfoldable pub effect_of : Insn → ℕ → List ℕ → Effect
 effect_of (Lui rd imm) pc registers = Set rd (upper imm)
 effect_of (Auipc rd imm) pc registers = Set rd ((pc + upper imm) % 2 ^ 64)
 effect_of (Jal rd offset) pc registers = Jump rd (plus pc offset)
 effect_of (Jalr rd rs1 imm) pc registers = Jump rd (even (plus (read registers rs1) imm))
-effect_of (Beq rs1 rs2 offset) pc registers = branch (taken when.Eq (read registers rs1) (read registers rs2)) (plus pc offset)
-effect_of (Bne rs1 rs2 offset) pc registers = branch (taken when.Ne (read registers rs1) (read registers rs2)) (plus pc offset)
-effect_of (Blt rs1 rs2 offset) pc registers = branch (taken when.Lt (read registers rs1) (read registers rs2)) (plus pc offset)
-effect_of (Bge rs1 rs2 offset) pc registers = branch (taken when.Ge (read registers rs1) (read registers rs2)) (plus pc offset)
-effect_of (Bltu rs1 rs2 offset) pc registers = branch (taken when.Ltu (read registers rs1) (read registers rs2)) (plus pc offset)
-effect_of (Bgeu rs1 rs2 offset) pc registers = branch (taken when.Geu (read registers rs1) (read registers rs2)) (plus pc offset)
+effect_of (Beq rs1 rs2 offset) pc registers =
+    branch (taken when.Eq (read registers rs1) (read registers rs2)) (plus pc offset)
+effect_of (Bne rs1 rs2 offset) pc registers =
+    branch (taken when.Ne (read registers rs1) (read registers rs2)) (plus pc offset)
+effect_of (Blt rs1 rs2 offset) pc registers =
+    branch (taken when.Lt (read registers rs1) (read registers rs2)) (plus pc offset)
+effect_of (Bge rs1 rs2 offset) pc registers =
+    branch (taken when.Ge (read registers rs1) (read registers rs2)) (plus pc offset)
+effect_of (Bltu rs1 rs2 offset) pc registers =
+    branch (taken when.Ltu (read registers rs1) (read registers rs2)) (plus pc offset)
+effect_of (Bgeu rs1 rs2 offset) pc registers =
+    branch (taken when.Geu (read registers rs1) (read registers rs2)) (plus pc offset)
 effect_of (Lb rd rs1 imm) pc registers = Load rd Byte true (plus (read registers rs1) imm)
 effect_of (Lh rd rs1 imm) pc registers = Load rd Half true (plus (read registers rs1) imm)
 effect_of (Lw rd rs1 imm) pc registers = Load rd Word true (plus (read registers rs1) imm)

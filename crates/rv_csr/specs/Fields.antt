@@ -29,6 +29,7 @@ abbrev pub mode_number : Mode → ℕ
 mode_number User = 0
 mode_number Machine = 3
 
--- the mode that two bits of a mode field are kept as: 1 and 2, which are no modes here, as 0 (Privileged Architecture, 3.1.6.1, MPP is WARL)
+-- the mode that two bits of a mode field are kept as: 1 and 2, which are no modes here, as 0 (Privileged Architecture,
+-- 3.1.6.1, MPP is WARL)
 abbrev pub kept_mode : ℕ → Mode
 kept_mode number = if number == 3 then Machine else User

@@ -7,7 +7,14 @@ use Rattle.rv_csr.specs.declared.privilege.Mode.TheVariants.{User}
 
 -- after a trap of this cause and value, taken at pc in a mode
 abbrev pub after_trap : ℕ → ℕ → ℕ → Mode → CsrState → CsrState
-after_trap cause value pc mode csrs = record csrs { mepc = instruction_aligned pc; mcause = cause; mtval = value; mstatus_mpie = csrs.mstatus_mie; mstatus_mie = false; mstatus_mpp = mode }
+after_trap cause value pc mode csrs = record csrs {
+  mepc = instruction_aligned pc;
+  mcause = cause;
+  mtval = value;
+  mstatus_mpie = csrs.mstatus_mie;
+  mstatus_mie = false;
+  mstatus_mpp = mode;
+}
 
 -- after MRET
 abbrev pub after_return : CsrState → CsrState

@@ -68,8 +68,8 @@ impl Csrs {
         }
     }
 
-    /// Writes the register of a number, as an instruction in a mode does; it keeps what it can hold. False, and nothing is
-    /// changed, where that is illegal: in user mode, where there is no such register, and where it is only read
+    /// Writes the register of a number, as an instruction in a mode does; it keeps what it can hold. False, and nothing
+    /// is changed, where that is illegal: in user mode, where there is no such register, and where it is only read
     /// (Privileged Architecture, 2.1).
     pub fn write(&mut self, number: u16, value: u64, mode: Mode) -> bool
         ensures after { csr_write number value mode self.old ≡ then_some result self.new }
@@ -116,8 +116,8 @@ impl Csrs {
         back
     }
 
-    /// The PMP allows an access of `width` bytes at `at`, whose addresses go on modulo 2^64. One of no bytes is matched by
-    /// no entry (Privileged Architecture, 3.7.1).
+    /// The PMP allows an access of `width` bytes at `at`, whose addresses go on modulo 2^64. One of no bytes is matched
+    /// by no entry (Privileged Architecture, 3.7.1).
     #[inline(always)]
     #[tactic(auto, unfolding(crate::specs::CsrTable::is_allowed))]
     pub fn allows(&self, at: u64, width: u64, access: Access, mode: Mode) -> bool

@@ -156,8 +156,8 @@ impl Window {
     }
 }
 
-/// Two entries, seen as these. The addresses of most accesses are found when the entries are set, so that such an access
-/// costs one comparison.
+/// Two entries, seen as these. The addresses of most accesses are found when the entries are set, so that such an
+/// access costs one comparison.
 #[derive(Drop)]
 pub struct Pmp {
     entry0: PmpEntry,

@@ -5,7 +5,8 @@ use Rattle.std.specs.Prelude.{◌≡◌, ℕ, ◌+◌, ◌-◌, ◌*◌, ◌/◌
 abbrev pub bits : ℕ → ℕ → ℕ → ℕ
 bits word low count = word / 2 ^ low % 2 ^ count
 
--- a field of `count` bits read in two's complement: its top bit is the sign (Unprivileged ISA, 2.3 Immediate Encoding Variants)
+-- a field of `count` bits read in two's complement: its top bit is the sign (Unprivileged ISA, 2.3 Immediate Encoding
+-- Variants)
 abbrev pub signed : ℕ → ℕ → ℤ
 signed count field = if nat_lt field (2 ^ (count - 1)) then pos field else (pos field -ℤ pos (2 ^ count))
 
@@ -21,7 +22,8 @@ funct3 word = bits word 12 3
 abbrev pub funct7 : ℕ → ℕ
 funct7 word = bits word 25 7
 
--- bits 31:26, above the shift amount of a 64-bit shift (Unprivileged ISA, RV64I, Integer Register-Immediate Instructions)
+-- bits 31:26, above the shift amount of a 64-bit shift (Unprivileged ISA, RV64I, Integer Register-Immediate
+-- Instructions)
 abbrev pub funct6 : ℕ → ℕ
 funct6 word = bits word 26 6
 
@@ -57,13 +59,16 @@ i_at word = signed 12 (bits word 20 12)
 abbrev pub s_at : ℕ → ℤ
 s_at word = signed 12 (bits word 25 7 * 2 ^ 5 + bits word 7 5)
 
--- the offset imm[12] of bit 31, imm[11] of bit 7, imm[10:5] of bits 30:25, imm[4:1] of bits 11:8 (Unprivileged ISA, 2.3, B-immediate)
+-- the offset imm[12] of bit 31, imm[11] of bit 7, imm[10:5] of bits 30:25, imm[4:1] of bits 11:8 (Unprivileged ISA,
+-- 2.3, B-immediate)
 abbrev pub b_at : ℕ → ℤ
 b_at word = signed 13 (bits word 31 1 * 2 ^ 12 + bits word 7 1 * 2 ^ 11 + bits word 25 6 * 2 ^ 5 + bits word 8 4 * 2)
 
--- the offset imm[20] of bit 31, imm[19:12] of bits 19:12, imm[11] of bit 20, imm[10:1] of bits 30:21 (Unprivileged ISA, 2.3, J-immediate)
+-- the offset imm[20] of bit 31, imm[19:12] of bits 19:12, imm[11] of bit 20, imm[10:1] of bits 30:21 (Unprivileged ISA,
+-- 2.3, J-immediate)
 abbrev pub j_at : ℕ → ℤ
-j_at word = signed 21 (bits word 31 1 * 2 ^ 20 + bits word 12 8 * 2 ^ 12 + bits word 20 1 * 2 ^ 11 + bits word 21 10 * 2)
+j_at word =
+    signed 21 (bits word 31 1 * 2 ^ 20 + bits word 12 8 * 2 ^ 12 + bits word 20 1 * 2 ^ 11 + bits word 21 10 * 2)
 
 -- a word of the U format: an upper immediate (Unprivileged ISA, 2.2)
 pub record IsU (op rd imm word : ℕ) : Type 0 where
@@ -101,7 +106,8 @@ pub record IsB (op f3 rs1 rs2 : ℕ) (offset : ℤ) (word : ℕ) : Type 0 where
   pub rs2_is : rs2_at word ≡ rs2
   pub offset_is : b_at word ≡ offset
 
--- a word of the R format: two source registers, or a 32-bit shift with its amount in rs2's place (Unprivileged ISA, 2.2)
+-- a word of the R format: two source registers, or a 32-bit shift with its amount in rs2's place (Unprivileged ISA,
+-- 2.2)
 pub record IsR (op f3 f7 rd rs1 rs2 word : ℕ) : Type 0 where
   pub opcode_is : opcode word ≡ op
   pub funct3_is : funct3 word ≡ f3
@@ -110,7 +116,8 @@ pub record IsR (op f3 f7 rd rs1 rs2 word : ℕ) : Type 0 where
   pub rs1_is : rs1_at word ≡ rs1
   pub rs2_is : rs2_at word ≡ rs2
 
--- a 64-bit shift by a constant: the I format with the amount in bits 25:20 (Unprivileged ISA, RV64I, Integer Register-Immediate Instructions)
+-- a 64-bit shift by a constant: the I format with the amount in bits 25:20 (Unprivileged ISA, RV64I, Integer
+-- Register-Immediate Instructions)
 pub record IsShift (op f3 f6 rd rs1 amount word : ℕ) : Type 0 where
   pub opcode_is : opcode word ≡ op
   pub funct3_is : funct3 word ≡ f3
@@ -125,7 +132,8 @@ pub record IsFence (op f3 kept word : ℕ) : Type 0 where
   pub funct3_is : funct3 word ≡ f3
   pub word_is : word ≡ kept
 
--- a CSR instruction, with a source register or a 5-bit immediate in bits 19:15 (Unprivileged ISA, Zicsr, CSR Instructions)
+-- a CSR instruction, with a source register or a 5-bit immediate in bits 19:15 (Unprivileged ISA, Zicsr, CSR
+-- Instructions)
 pub record IsCsr (op f3 rd source csr word : ℕ) : Type 0 where
   pub opcode_is : opcode word ≡ op
   pub funct3_is : funct3 word ≡ f3

@@ -4,7 +4,8 @@ use Rattle.rv_decode.specs.Fields.{opcode, funct3, funct6, funct7, rd_at, rs1_at
 use Rattle.rv_decode.specs.declared.instruction.Insn.{Insn}
 use Rattle.rv_decode.specs.declared.instruction.Insn.TheVariants.{Lui, Auipc, Jal, Jalr, Beq, Bne, Blt, Bge, Bltu, Bgeu, Lb, Lh, Lw, Ld, Lbu, Lhu, Lwu, Sb, Sh, Sw, Sd, Addi, Slti, Sltiu, Xori, Ori, Andi, Slli, Srli, Srai, Addiw, Slliw, Srliw, Sraiw, Add, Sll, Slt, Sltu, Xor, Srl, Or, And, Sub, Sra, Mul, Mulh, Mulhsu, Mulhu, Div, Divu, Rem, Remu, Addw, Sllw, Srlw, Subw, Sraw, Mulw, Divw, Divuw, Remw, Remuw, Fence, FenceI, Ecall, Ebreak, Mret, Wfi, Csrrw, Csrrs, Csrrc, Csrrwi, Csrrsi, Csrrci}
 
--- the word stands for the instruction: its format and the values of its fixed fields (Unprivileged ISA, RV32/64G Instruction Set Listings; MRET and WFI: Privileged Architecture, RISC-V Privileged Instruction Set Listings)
+-- the word stands for the instruction: its format and the values of its fixed fields (Unprivileged ISA, RV32/64G
+-- Instruction Set Listings; MRET and WFI: Privileged Architecture, RISC-V Privileged Instruction Set Listings)
 abbrev pub Row : ℕ → Insn → Type 0
 Row word (Lui rd imm) = IsU 0x37 rd imm word
 Row word (Auipc rd imm) = IsU 0x17 rd imm word
@@ -113,25 +114,37 @@ store_of word =
     else if funct3 word == 3 then Some (Sd (rs1_at word) (rs2_at word) (s_at word))
     else None
 
--- opcode OP-IMM, by funct3, and the shifts by funct6 (Unprivileged ISA, 2.4.1 Integer Register-Immediate Instructions; RV64I)
+-- opcode OP-IMM, by funct3, and the shifts by funct6 (Unprivileged ISA, 2.4.1 Integer Register-Immediate Instructions;
+-- RV64I)
 unfoldable pub op_imm_of : ℕ → Option Insn
 op_imm_of word =
     if funct3 word == 0 then Some (Addi (rd_at word) (rs1_at word) (i_at word))
-    else if funct3 word == 1 then (if funct6 word == 0 then Some (Slli (rd_at word) (rs1_at word) (amount_at word)) else None)
+    else if funct3 word == 1 then (
+    if funct6 word == 0 then Some (Slli (rd_at word) (rs1_at word) (amount_at word))
+    else None)
     else if funct3 word == 2 then Some (Slti (rd_at word) (rs1_at word) (i_at word))
     else if funct3 word == 3 then Some (Sltiu (rd_at word) (rs1_at word) (i_at word))
     else if funct3 word == 4 then Some (Xori (rd_at word) (rs1_at word) (i_at word))
-    else if funct3 word == 5 then (if funct6 word == 0 then Some (Srli (rd_at word) (rs1_at word) (amount_at word)) else if funct6 word == 0x10 then Some (Srai (rd_at word) (rs1_at word) (amount_at word)) else None)
+    else if funct3 word == 5 then (
+    if funct6 word == 0 then Some (Srli (rd_at word) (rs1_at word) (amount_at word))
+    else if funct6 word == 0x10 then Some (Srai (rd_at word) (rs1_at word) (amount_at word))
+    else None)
     else if funct3 word == 6 then Some (Ori (rd_at word) (rs1_at word) (i_at word))
     else if funct3 word == 7 then Some (Andi (rd_at word) (rs1_at word) (i_at word))
     else None
 
--- opcode OP-IMM-32, by funct3, and the shifts by funct7 (Unprivileged ISA, RV64I, Integer Register-Immediate Instructions)
+-- opcode OP-IMM-32, by funct3, and the shifts by funct7 (Unprivileged ISA, RV64I, Integer Register-Immediate
+-- Instructions)
 unfoldable pub op_imm_32_of : ℕ → Option Insn
 op_imm_32_of word =
     if funct3 word == 0 then Some (Addiw (rd_at word) (rs1_at word) (i_at word))
-    else if funct3 word == 1 then (if funct7 word == 0 then Some (Slliw (rd_at word) (rs1_at word) (rs2_at word)) else None)
-    else if funct3 word == 5 then (if funct7 word == 0 then Some (Srliw (rd_at word) (rs1_at word) (rs2_at word)) else if funct7 word == 0x20 then Some (Sraiw (rd_at word) (rs1_at word) (rs2_at word)) else None)
+    else if funct3 word == 1 then (
+    if funct7 word == 0 then Some (Slliw (rd_at word) (rs1_at word) (rs2_at word))
+    else None)
+    else if funct3 word == 5 then (
+    if funct7 word == 0 then Some (Srliw (rd_at word) (rs1_at word) (rs2_at word))
+    else if funct7 word == 0x20 then Some (Sraiw (rd_at word) (rs1_at word) (rs2_at word))
+    else None)
     else None
 
 -- opcode OP with funct7 0, by funct3 (Unprivileged ISA, 2.4.2 Integer Register-Register Operations)
@@ -215,10 +228,16 @@ misc_mem_of word =
     else if funct3 word == 1 then Some (FenceI word)
     else None
 
--- opcode SYSTEM, by funct3, and under 0 by the whole word (Unprivileged ISA, 2.8 Environment Call and Breakpoints; Zicsr)
+-- opcode SYSTEM, by funct3, and under 0 by the whole word (Unprivileged ISA, 2.8 Environment Call and Breakpoints;
+-- Zicsr)
 unfoldable pub system_of : ℕ → Option Insn
 system_of word =
-    if funct3 word == 0 then (if word == 0x00000073 then Some Ecall else if word == 0x00100073 then Some Ebreak else if word == 0x30200073 then Some Mret else if word == 0x10500073 then Some Wfi else None)
+    if funct3 word == 0 then (
+    if word == 0x00000073 then Some Ecall
+    else if word == 0x00100073 then Some Ebreak
+    else if word == 0x30200073 then Some Mret
+    else if word == 0x10500073 then Some Wfi
+    else None)
     else if funct3 word == 1 then Some (Csrrw (rd_at word) (rs1_at word) (csr_at word))
     else if funct3 word == 2 then Some (Csrrs (rd_at word) (rs1_at word) (csr_at word))
     else if funct3 word == 3 then Some (Csrrc (rd_at word) (rs1_at word) (csr_at word))
@@ -232,7 +251,8 @@ unfoldable pub jalr_of : ℕ → Option Insn
 jalr_of word =
     if funct3 word == 0 then Some (Jalr (rd_at word) (rs1_at word) (i_at word)) else None
 
--- the instruction that the word stands for, by its opcode (Unprivileged ISA, RV32/64G Instruction Set Listings, base opcode map)
+-- the instruction that the word stands for, by its opcode (Unprivileged ISA, RV32/64G Instruction Set Listings, base
+-- opcode map)
 unfoldable pub insn_of : ℕ → Option Insn
 insn_of word =
     if opcode word == 0x37 then Some (Lui (rd_at word) (upper_at word))

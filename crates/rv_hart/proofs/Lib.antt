@@ -4,3 +4,4 @@ pub mod LinedLaws
 pub mod CountLaws
 pub mod CsrLaws
 pub mod RangeLaws
+pub mod WalkLaws

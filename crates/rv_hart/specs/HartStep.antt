@@ -1,5 +1,5 @@
 -- One step of a hart over its bus: nothing while it is held, or else one instruction or its trap.
-use Rattle.std.specs.Prelude.{◌≡◌, ℕ, ◌+◌, ◌-◌, ◌%◌, ◌^◌, ◌<◌, ◌==◌, ⊤, Bool, false, if◌then◌else◌, List, length, slice_index, Option, Some, None, Result, Ok, Err, bit_and, bit_or}
+use Rattle.std.specs.Prelude.{◌≡◌, ℕ, ◌+◌, ◌-◌, ◌%◌, ◌^◌, ◌<◌, ◌==◌, ⊤, Bool, false, if◌then◌else◌, List, length, slice_index, Option, Some, None, bit_and, bit_or}
 use Rattle.fe_base.specs.Memory.{counted}
 use Rattle.fe_base.specs.MemoryMap.{kernel_start}
 use Rattle.guest_memory.specs.Bus.{BusState}
@@ -11,7 +11,6 @@ use Rattle.rv_alu.specs.Causes.{cause_number}
 use Rattle.rv_alu.specs.Effects.{effect_of, bytes, loaded, put}
 use Rattle.rv_alu.specs.declared.causes.Cause.{Cause}
 use Rattle.rv_alu.specs.declared.causes.Cause.TheVariants.{Misaligned, FetchAccess, Illegal, Breakpoint, LoadAccess, StoreAccess, UserCall, MachineCall}
-use Rattle.rv_alu.specs.declared.causes.Trap.{Trap}
 use Rattle.rv_alu.specs.declared.effects.CsrOp.{CsrOp}
 use Rattle.rv_alu.specs.declared.effects.CsrOp.TheVariants as op
 use Rattle.rv_alu.specs.declared.effects.Size.{Size}
@@ -56,9 +55,11 @@ pub record IsHart (hart : HartState) : Type 0 where
 
 -- the hart at reset: held, in machine mode, at the first address of the kernel area, with every register 0
 abbrev pub reset_hart : HartState
-reset_hart = record { mode = Machine; pc = kernel_start; registers = zeros 32; csrs = reset_csrs; run = Held; user_steps = 0 }
+reset_hart =
+    record { mode = Machine; pc = kernel_start; registers = zeros 32; csrs = reset_csrs; run = Held; user_steps = 0 }
 
--- what an instruction gives on a hart over its bus: the next system, or a trap with its cause and value, which is still to be
+-- what an instruction gives on a hart over its bus: the next system, or a trap with its cause and value, which is still
+-- to be
 -- taken; a debugger's instructions give the same, and their traps are not taken
 pub data SystemStep : Type 0 where
   next : System → SystemStep
@@ -81,7 +82,10 @@ unless None cause step = step
 abbrev pub load_step : ℕ → Size → Bool → ℕ → ℕ → System → SystemStep
 load_step rd size extends at after system =
     unless (refused_byte system.hart.csrs system.hart.mode Read at (bytes size)) LoadAccess
-    (next_hart system.bus (record system.hart { pc = after; registers = put system.hart.registers rd (loaded size extends (hart_load system.bus at (bytes size))) }))
+    (next_hart system.bus (record system.hart {
+      pc = after;
+      registers = put system.hart.registers rd (loaded size extends (hart_load system.bus at (bytes size)));
+    }))
 
 -- a store of a number, with the next instruction at `after` (Unprivileged ISA, RV64I, Load and Store Instructions)
 abbrev pub store_step : Size → ℕ → ℕ → ℕ → System → SystemStep
@@ -89,7 +93,8 @@ store_step size at value after system =
     unless (refused_byte system.hart.csrs system.hart.mode Write at (bytes size)) StoreAccess
     (next_hart (hart_store system.bus at (bytes size) value) (record system.hart { pc = after }))
 
--- what a CSR instruction writes, of what the register held: the value, or its bits set or cleared in it (Unprivileged ISA, Zicsr)
+-- what a CSR instruction writes, of what the register held: the value, or its bits set or cleared in it (Unprivileged
+-- ISA, Zicsr)
 abbrev pub written_value : CsrOp → ℕ → ℕ → ℕ
 written_value op.Write old value = value
 written_value op.SetBits old value = bit_or old value
@@ -98,29 +103,38 @@ written_value op.ClearBits old value = bit_and old (2 ^ 64 - 1 - value)
 -- the CSRs after an access of a register that held this, where the write is legal
 abbrev pub written_csrs : CsrAccess → ℕ → HartState → Option CsrState
 written_csrs access old hart =
-    if access.writes then csr_write access.csr (written_value access.op old access.value) hart.mode hart.csrs else Some hart.csrs
+    if access.writes then csr_write access.csr (written_value access.op old access.value) hart.mode hart.csrs
+    else Some hart.csrs
 
--- an access of a register that held this, which leaves these CSRs: the old value goes to rd; an illegal instruction where the
+-- an access of a register that held this, which leaves these CSRs: the old value goes to rd; an illegal instruction
+-- where the
 -- write is illegal
 abbrev pub csr_write_step : Option CsrState → CsrAccess → ℕ → ℕ → ℕ → System → SystemStep
 csr_write_step (Some csrs) access old bits after system =
-    next_hart system.bus (record system.hart { pc = after; registers = put system.hart.registers access.rd old; csrs = csrs })
+    next_hart system.bus (record system.hart {
+      pc = after;
+      registers = put system.hart.registers access.rd old;
+      csrs = csrs;
+    })
 csr_write_step None access old bits after system = trap Illegal bits
 
 -- an access of a register that holds this; an illegal instruction where it may not be read
 abbrev pub csr_read_step : Option ℕ → CsrAccess → ℕ → ℕ → System → SystemStep
-csr_read_step (Some old) access bits after system = csr_write_step (written_csrs access old system.hart) access old bits after system
+csr_read_step (Some old) access bits after system =
+    csr_write_step (written_csrs access old system.hart) access old bits after system
 csr_read_step None access bits after system = trap Illegal bits
 
 -- the access of a CSR instruction of these bits, with the next one at `after` (Unprivileged ISA, Zicsr)
 unfoldable pub csr_step : CsrAccess → ℕ → ℕ → System → SystemStep
-csr_step access bits after system = csr_read_step (csr_read access.csr system.hart.mode system.hart.csrs) access bits after system
+csr_step access bits after system =
+    csr_read_step (csr_read access.csr system.hart.mode system.hart.csrs) access bits after system
 
 -- a hart after MRET: in the mode and at the address from which the trap was taken (Privileged Architecture, 3.3.2)
 unfoldable pub after_mret : HartState → HartState
 after_mret hart = record hart { mode = hart.csrs.mstatus_mpp; pc = hart.csrs.mepc; csrs = after_return hart.csrs }
 
--- what machine mode alone may do; an illegal instruction in user mode (Privileged Architecture, 3.3.2; that WFI is among it is
+-- what machine mode alone may do; an illegal instruction in user mode (Privileged Architecture, 3.3.2; that WFI is
+-- among it is
 -- this project's choice)
 abbrev pub privileged : Mode → ℕ → SystemStep → SystemStep
 privileged Machine bits step = step
@@ -131,11 +145,13 @@ abbrev pub call_cause : Mode → Cause
 call_cause User = UserCall
 call_cause Machine = MachineCall
 
--- an effect carried out, for an instruction of these bits, with the next one at `after` (Unprivileged ISA, 2.4 to 2.8 and Zicsr;
+-- an effect carried out, for an instruction of these bits, with the next one at `after` (Unprivileged ISA, 2.4 to 2.8
+-- and Zicsr;
 -- Privileged Architecture, 3.3.1 to 3.3.3, and 3.1.15 and 3.1.16 for the causes and values of traps)
 unfoldable pub effect_step : Effect → ℕ → ℕ → System → SystemStep
 effect_step Pass bits after system = next_hart system.bus (record system.hart { pc = after })
-effect_step (Set rd value) bits after system = next_hart system.bus (record system.hart { pc = after; registers = put system.hart.registers rd value })
+effect_step (Set rd value) bits after system =
+    next_hart system.bus (record system.hart { pc = after; registers = put system.hart.registers rd value })
 effect_step (Jump rd target) bits after system =
     if target % instruction_alignment == 0
     then next_hart system.bus (record system.hart { pc = target; registers = put system.hart.registers rd after })
@@ -147,7 +163,8 @@ effect_step (Csr rd csr op value writes) bits after system =
 effect_step Call bits after system = trap (call_cause system.hart.mode) 0
 effect_step Break bits after system = trap Breakpoint system.hart.pc
 effect_step Return bits after system = privileged system.hart.mode bits (next_hart system.bus (after_mret system.hart))
-effect_step Wait bits after system = privileged system.hart.mode bits (next_hart system.bus (record system.hart { pc = after }))
+effect_step Wait bits after system =
+    privileged system.hart.mode bits (next_hart system.bus (record system.hart { pc = after }))
 
 -- the instruction of these bits and this length, if there is one, done at pc
 abbrev pub insn_step : Option Insn → ℕ → ℕ → System → SystemStep
@@ -165,10 +182,15 @@ instruction_step system =
     unless (refused_byte system.hart.csrs system.hart.mode Execute system.hart.pc 4) FetchAccess
     (insn_step (insn_of (word_at system)) (word_at system) 4 system)
 
--- a hart that takes a trap of a cause and value: in machine mode, at its handler (Privileged Architecture, 3.1.6.1 and 3.1.7)
+-- a hart that takes a trap of a cause and value: in machine mode, at its handler (Privileged Architecture, 3.1.6.1 and
+-- 3.1.7)
 unfoldable pub trap_step : Cause → ℕ → HartState → HartState
 trap_step cause value hart =
-    record hart { mode = Machine; pc = hart.csrs.mtvec; csrs = after_trap (cause_number cause) value hart.pc hart.mode hart.csrs }
+    record hart {
+      mode = Machine;
+      pc = hart.csrs.mtvec;
+      csrs = after_trap (cause_number cause) value hart.pc hart.mode hart.csrs;
+    }
 
 -- what a step leaves of the system that makes it: the next system, or the one whose hart takes the trap
 abbrev pub after_step : System → SystemStep → System
@@ -201,11 +223,6 @@ step_by (Halted dpc prv held) system = system
 -- one step of a hart over its bus, where the debug lines ask for nothing: the quiet step
 abbrev pub hart_step : System → System
 hart_step system = step_by system.hart.run system
-
--- the step that the code's outcome, with the system after it, stands for
-abbrev pub step_of : Result ⊤ Trap → System → SystemStep
-step_of (Ok done) system = next system
-step_of (Err trapped) system = trap trapped.cause trapped.value
 
 -- the hart is held or runs
 abbrev pub IsUnhalted : Run → Type 0

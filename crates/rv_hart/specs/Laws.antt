@@ -16,8 +16,10 @@ StepsKeepRange = (system : System) → IsSystem system → IsSystem (hart_step s
 
 -- a step in machine mode is no user step
 abbrev pub MachineStepsUncounted : Type 0
-MachineStepsUncounted = (system : System) → system.hart.mode ≡ Machine → (hart_step system).hart.user_steps ≡ system.hart.user_steps
+MachineStepsUncounted =
+    (system : System) → system.hart.mode ≡ Machine → (hart_step system).hart.user_steps ≡ system.hart.user_steps
 
 -- a step is the quiet step where the lines ask for nothing
 abbrev pub QuietSteps : Type 0
-QuietSteps = (lined : LinedSystem) → AreQuiet lined.lines → lined_step lined ≡ (record lined { system = hart_step lined.system })
+QuietSteps =
+    (lined : LinedSystem) → AreQuiet lined.lines → lined_step lined ≡ (record lined { system = hart_step lined.system })

@@ -1,4 +1,5 @@
 pub mod Accesses
 pub mod HartStep
 pub mod LinedStep
+pub mod Walks
 pub mod Laws

@@ -31,8 +31,10 @@ job_case Idle = quiet
 job_case (Move reg write then_run) = works
 job_case Buffer = works
 
--- what a step is, by how the hart stands and what is asked of it, in this order: a halted hart resumes where that is asked, or does
--- its job, or stays as it is; one that is not halted halts where that is asked, or else makes the quiet step (External Debug
+-- what a step is, by how the hart stands and what is asked of it, in this order: a halted hart resumes where that is
+-- asked, or does
+-- its job, or stays as it is; one that is not halted halts where that is asked, or else makes the quiet step (External
+-- Debug
 -- Support 0.13.2, 3.4 and 3.5)
 abbrev pub case_of : Run → DebugLines → LinedCase
 case_of (Halted dpc prv held) lines = if lines.resume then resumes else job_case lines.job

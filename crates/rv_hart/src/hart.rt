@@ -1,18 +1,19 @@
 // A hart and its step.
-ghost use Rattle.std.specs.Prelude.{◌≡◌, ◌≢◌, ◌<◌, Err, OnErr};
+ghost use Rattle.std.specs.Prelude.{◌≡◌, ◌≢◌, ◌<◌, ◌≤◌, ◌-◌, ◌^◌};
 ghost use Rattle.guest_memory.specs.Bus.{BusState, IsBus};
 ghost use Rattle.guest_memory.specs.Memory.{zeros};
 ghost use Rattle.rv_alu.specs.Effects as effect_spec;
 ghost use Rattle.rv_alu.specs.Effects.{IsInRange};
 ghost use Rattle.rv_hart.specs.HartStep as spec;
-ghost use Rattle.rv_hart.specs.HartStep.{IsHart, IsUnhalted, reset_hart, trap_step, after_mret, next_hart, privileged, csr_step, load_step, store_step, effect_step, instruction_step, executing_step, counted_step, step_of, over, hart_step};
+ghost use Rattle.rv_hart.specs.HartStep.{IsHart, IsUnhalted, reset_hart, trap_step, after_mret, next_hart, privileged, csr_step, effect_step, instruction_step, over, hart_step};
 ghost use Rattle.rv_hart.specs.LinedStep.{AreQuiet, lined_step};
+ghost use Rattle.rv_hart.specs.Walks.{step_of, Stays, BusStays, Walked, Settled, counted_by, hart_after};
 
-use crate::access::{read, start_word, write};
+use crate::access::{load, read, start_word, store};
 use crate::debug::{DebugLines, Run};
 use fe_base::memory_map::KERNEL_START;
 use guest_memory::Bus;
-use rv_alu::{Cause, CsrOp, Effect, Size, Trap, act, loaded, put};
+use rv_alu::{Cause, CsrOp, Effect, Trap, act, put};
 use rv_csr::{Access, Csrs, Mode};
 use rv_decode::{Decoder, INSTRUCTION_ALIGNMENT};
 use std::marker::Model;
@@ -73,11 +74,27 @@ fn written_value(op: CsrOp, old: u64, value: u64) -> u64
     }
 }
 
+// The walk of a hart in user mode, and that of one in machine mode: each is compiled for its mode.
+struct InUser;
+
+struct InMachine;
+
+// What an instruction did.
+#[derive(Clone, Copy)]
+enum Outcome {
+    // It was done, and left the CSRs and the mode.
+    Moved,
+    // It was done: a CSR instruction or MRET.
+    Ruled,
+    // It is a trap, which is still to be taken; nothing has changed.
+    Trapped(Trap),
+}
+
 #[inline(always)]
-fn trapped(cause: Cause, value: u64) -> Result<(), Trap>
-    ensures { result ≡ Err (record { cause = cause; value = value }) }
+fn trapped(cause: Cause, value: u64) -> Outcome
+    ensures { result ≡ Outcome.Trapped (record { cause = cause; value = value }) }
 {
-    Err(Trap { cause, value })
+    Outcome::Trapped(Trap { cause, value })
 }
 
 // The cause of ECALL.
@@ -127,7 +144,8 @@ impl Hart {
         put(&mut self.registers, n, value);
     }
 
-    /// How many steps so far began in user mode, those that ended in a trap among them. The count stays at its last value.
+    /// How many steps so far began in user mode, those that ended in a trap among them. The count stays at its last
+    /// value.
     pub fn user_steps(&self) -> u64
         ensures { result ≡ self.now.user_steps }
     {
@@ -135,29 +153,35 @@ impl Hart {
     }
 
     // MRET of an instruction of these bits.
+    #[cold]
+    #[inline(never)]
     #[tactic(auto, unfolding(crate::specs::HartStep::after_mret))]
-    fn return_from_trap(&mut self, bits: u32) -> Result<(), Trap>
+    fn return_from_trap(&mut self, bits: u32) -> Outcome
         ensures step { (bus : BusState) → privileged self.old.mode bits (next_hart bus (after_mret self.old)) ≡ step_of result (over bus self.new) }
-        ensures stays { OnErr result (self.new ≡ self.old) }
+        ensures stays { Stays result self.old self.new }
         ensures run { self.new.run ≡ self.old.run }
+        ensures count { self.new.user_steps ≡ self.old.user_steps }
         ensures range { IsHart self.new }
     {
         match self.mode {
             Mode::User => trapped(Cause::Illegal, u64::from(bits)),
             Mode::Machine => {
                 (self.mode, self.pc) = self.csrs.leave_trap();
-                Ok(())
+                Outcome::Ruled
             }
         }
     }
 
     // A CSR instruction of these bits, with the next one at `after`.
+    #[cold]
+    #[inline(never)]
     #[tactic(auto, using(crate::proofs::RegisterLemmas::registers), unfolding(crate::specs::HartStep::csr_step))]
-    fn access_csr(&mut self, access: CsrAccess, bits: u32, after: u64) -> Result<(), Trap>
+    fn access_csr(&mut self, access: CsrAccess, bits: u32, after: u64) -> Outcome
         requires { access.rd < 32 }
         ensures step { (bus : BusState) → csr_step access bits after (over bus self.old) ≡ step_of result (over bus self.new) }
-        ensures stays { OnErr result (self.new ≡ self.old) }
+        ensures stays { Stays result self.old self.new }
         ensures run { self.new.run ≡ self.old.run }
+        ensures count { self.new.user_steps ≡ self.old.user_steps }
         ensures range { IsHart self.new }
     {
         let Some(old) = self.csrs.read(access.csr, self.mode) else {
@@ -169,126 +193,24 @@ impl Hart {
         }
         put(&mut self.registers, access.rd, old);
         self.pc = after;
-        Ok(())
+        Outcome::Ruled
     }
 
-    // A load of this size to a register, with the next instruction at `after`.
-    #[inline(always)]
-    #[tactic(auto, using(crate::proofs::RegisterLemmas::registers))]
-    fn load_of(
-        &mut self,
-        bus: &Bus,
-        size: Size,
-        rd: u8,
-        extends: bool,
-        at: u64,
-        after: u64,
-    ) -> Result<(), Trap>
-        requires { rd < 32 }
-        ensures step { load_step rd size extends at after (over bus.now self.old) ≡ step_of result (over bus.now self.new) }
-        ensures stays { OnErr result (self.new ≡ self.old) }
-        ensures run { self.new.run ≡ self.old.run }
-        ensures range { IsHart self.new }
-    {
-        match read(bus, &self.csrs, self.mode, Access::Read, at, size.bytes()) {
-            Ok(number) => {
-                put(&mut self.registers, rd, loaded(size, extends, number));
-                self.pc = after;
-                Ok(())
-            }
-            Err(byte) => trapped(Cause::LoadAccess, byte),
-        }
-    }
-
-    // As `load_of`, by a call for each size: each is compiled for its own width.
-    #[inline(always)]
-    fn load(
-        &mut self,
-        bus: &Bus,
-        size: Size,
-        rd: u8,
-        extends: bool,
-        at: u64,
-        after: u64,
-    ) -> Result<(), Trap>
-        requires { rd < 32 }
-        ensures step { load_step rd size extends at after (over bus.now self.old) ≡ step_of result (over bus.now self.new) }
-        ensures stays { OnErr result (self.new ≡ self.old) }
-        ensures run { self.new.run ≡ self.old.run }
-        ensures range { IsHart self.new }
-    {
-        match size {
-            Size::Byte => self.load_of(bus, Size::Byte, rd, extends, at, after),
-            Size::Half => self.load_of(bus, Size::Half, rd, extends, at, after),
-            Size::Word => self.load_of(bus, Size::Word, rd, extends, at, after),
-            Size::Double => self.load_of(bus, Size::Double, rd, extends, at, after),
-        }
-    }
-
-    // A store of the low bytes of a number, so many as the size says, with the next instruction at `after`.
-    #[inline(always)]
-    fn store_of(
-        &mut self,
-        bus: &mut Bus,
-        size: Size,
-        at: u64,
-        value: u64,
-        after: u64,
-    ) -> Result<(), Trap>
-        ensures step { store_step size at value after (over bus.old self.old) ≡ step_of result (over bus.new self.new) }
-        ensures stays { OnErr result (self.new ≡ self.old) }
-        ensures bus_stays { OnErr result (bus.new ≡ bus.old) }
-        ensures run { self.new.run ≡ self.old.run }
-        ensures range { IsHart self.new }
-        ensures bytes { IsBus bus.old → IsBus bus.new }
-    {
-        match write(bus, &self.csrs, self.mode, at, size.bytes(), value) {
-            Ok(()) => {
-                self.pc = after;
-                Ok(())
-            }
-            Err(byte) => trapped(Cause::StoreAccess, byte),
-        }
-    }
-
-    // As `store_of`, by a call for each size.
-    #[inline(always)]
-    fn store(
-        &mut self,
-        bus: &mut Bus,
-        size: Size,
-        at: u64,
-        value: u64,
-        after: u64,
-    ) -> Result<(), Trap>
-        ensures step { store_step size at value after (over bus.old self.old) ≡ step_of result (over bus.new self.new) }
-        ensures stays { OnErr result (self.new ≡ self.old) }
-        ensures bus_stays { OnErr result (bus.new ≡ bus.old) }
-        ensures run { self.new.run ≡ self.old.run }
-        ensures range { IsHart self.new }
-        ensures bytes { IsBus bus.old → IsBus bus.new }
-    {
-        match size {
-            Size::Byte => self.store_of(bus, Size::Byte, at, value, after),
-            Size::Half => self.store_of(bus, Size::Half, at, value, after),
-            Size::Word => self.store_of(bus, Size::Word, at, value, after),
-            Size::Double => self.store_of(bus, Size::Double, at, value, after),
-        }
-    }
-
-    // An effect of an instruction of these bits, with the next one at `after`.
+    // An effect of an instruction of these bits in this mode, with the next one at `after`.
     #[inline(always)]
     #[tactic(auto, using(crate::proofs::RegisterLemmas::registers), unfolding(crate::specs::HartStep::effect_step))]
-    fn carry(&mut self, bus: &mut Bus, effect: Effect, bits: u32, after: u64) -> Result<(), Trap>
-        requires { IsInRange effect }
+    fn carry(&mut self, bus: &mut Bus, mode: Mode, effect: Effect, bits: u32, after: u64) -> Outcome
+        requires range { IsInRange effect }
+        requires mode { self.old.mode ≡ mode }
         ensures step { effect_step effect bits after (over bus.old self.old) ≡ step_of result (over bus.new self.new) }
-        ensures stays { OnErr result (self.new ≡ self.old) }
-        ensures bus_stays { OnErr result (bus.new ≡ bus.old) }
+        ensures stays { Stays result self.old self.new }
+        ensures bus_stays { BusStays result bus.old bus.new }
         ensures run { self.new.run ≡ self.old.run }
+        ensures count { self.new.user_steps ≡ self.old.user_steps }
         ensures range { IsHart self.new }
         ensures bytes { IsBus bus.old → IsBus bus.new }
     {
-        let mode = self.mode;
+        let pc = self.pc;
         match effect {
             Effect::Pass => self.pc = after,
             Effect::Set { rd, value } => {
@@ -307,8 +229,19 @@ impl Hart {
                 size,
                 extends,
                 at,
-            } => return self.load(bus, size, rd, extends, at, after),
-            Effect::Store { size, at, value } => return self.store(bus, size, at, value, after),
+            } => match load(bus, &self.csrs, mode, size, extends, at) {
+                Ok(value) => {
+                    put(&mut self.registers, rd, value);
+                    self.pc = after;
+                }
+                Err(byte) => return trapped(Cause::LoadAccess, byte),
+            },
+            Effect::Store { size, at, value } => match store(
+                bus, &self.csrs, mode, size, at, value,
+            ) {
+                Ok(()) => self.pc = after,
+                Err(byte) => return trapped(Cause::StoreAccess, byte),
+            },
             Effect::Csr {
                 rd,
                 csr,
@@ -326,37 +259,64 @@ impl Hart {
                 return self.access_csr(access, bits, after);
             }
             Effect::Call => return trapped(call_cause(mode), 0),
-            Effect::Break => return trapped(Cause::Breakpoint, self.pc),
+            Effect::Break => return trapped(Cause::Breakpoint, pc),
             Effect::Return => return self.return_from_trap(bits),
             Effect::Wait => match mode {
                 Mode::User => return trapped(Cause::Illegal, u64::from(bits)),
                 Mode::Machine => self.pc = after,
             },
         }
-        Ok(())
+        Outcome::Moved
     }
 
-    // One instruction, or the trap that it is; nothing has changed then.
+    // One instruction in this mode, or the trap that it is; nothing has changed then. Each walk `W` has an instance of
+    // its own.
     #[inline(always)]
     #[tactic(auto, unfolding(crate::specs::HartStep::instruction_step))]
-    fn instruction(&mut self, bus: &mut Bus) -> Result<(), Trap>
+    fn instruction<W>(&mut self, bus: &mut Bus, mode: Mode) -> Outcome
+        requires mode { self.old.mode ≡ mode }
         ensures step { instruction_step (over bus.old self.old) ≡ step_of result (over bus.new self.new) }
-        ensures stays { OnErr result (self.new ≡ self.old) }
-        ensures bus_stays { OnErr result (bus.new ≡ bus.old) }
+        ensures stays { Stays result self.old self.new }
+        ensures bus_stays { BusStays result bus.old bus.new }
         ensures run { self.new.run ≡ self.old.run }
+        ensures count { self.new.user_steps ≡ self.old.user_steps }
         ensures range { IsHart self.new }
         ensures bytes { IsBus bus.old → IsBus bus.new }
     {
-        let word = match read(bus, &self.csrs, self.mode, Access::Execute, self.pc, 4) {
+        let word = match read(bus, &self.csrs, mode, Access::Execute, self.pc, 4) {
             Ok(number) => number as u32,
             Err(byte) => return trapped(Cause::FetchAccess, byte),
         };
         let Some(insn) = self.decoder.decode(self.pc, word) else {
             return trapped(Cause::Illegal, u64::from(word));
         };
-        let effect = act::<Hart>(insn, self.pc, &self.registers);
+        let effect = act::<W>(insn, self.pc, &self.registers);
         let after = self.pc.wrapping_add(4);
-        self.carry(bus, effect, word, after)
+        self.carry(bus, mode, effect, word, after)
+    }
+
+    // Instructions in this mode as long as each moves on, at most so many: how many did, and what came next, or Moved
+    // where all did. No step is counted.
+    #[inline(never)]
+    fn walk<W>(&mut self, bus: &mut Bus, mode: Mode, most: u64) -> (u64, Outcome)
+        requires mode { self.old.mode ≡ mode }
+        requires running { self.old.run ≡ Run.Running }
+        ensures walked { Walked result.1 mode result.0 (over bus.old self.old) (over bus.new self.new) }
+        ensures most { result.0 ≤ most }
+        ensures moved { result.1 ≡ Outcome.Moved → result.0 ≡ most }
+        ensures stopped { result.1 ≢ Outcome.Moved → result.0 < most }
+        ensures run { self.new.run ≡ Run.Running }
+        ensures count { self.new.user_steps ≡ self.old.user_steps }
+        ensures bytes { IsBus bus.old → IsBus bus.new }
+    {
+        let mut count = 0;
+        'steps: while count < most {
+            match self.instruction::<W>(bus, mode) {
+                Outcome::Moved => count += 1,
+                outcome => return (count, outcome),
+            }
+        }
+        (count, Outcome::Moved)
     }
 
     // Takes a trap.
@@ -376,31 +336,74 @@ impl Hart {
         self.mode = Mode::Machine;
     }
 
-    // One instruction, or its trap, which is taken.
+    // The walk of this mode.
     #[inline(always)]
-    fn execute(&mut self, bus: &mut Bus)
-        ensures step { executing_step (over bus.old self.old) ≡ over bus.new self.new }
+    fn walk_in(&mut self, bus: &mut Bus, mode: Mode, most: u64) -> (u64, Outcome)
+        requires mode { self.old.mode ≡ mode }
+        requires running { self.old.run ≡ Run.Running }
+        ensures walked { Walked result.1 mode result.0 (over bus.old self.old) (over bus.new self.new) }
+        ensures most { result.0 ≤ most }
+        ensures moved { result.1 ≡ Outcome.Moved → result.0 ≡ most }
+        ensures stopped { result.1 ≢ Outcome.Moved → result.0 < most }
+        ensures run { self.new.run ≡ Run.Running }
+        ensures count { self.new.user_steps ≡ self.old.user_steps }
+        ensures bytes { IsBus bus.old → IsBus bus.new }
+    {
+        match mode {
+            Mode::User => self.walk::<InUser>(bus, Mode::User, most),
+            Mode::Machine => self.walk::<InMachine>(bus, Mode::Machine, most),
+        }
+    }
+
+    // Ends a walk of so many instructions: the trap that came next is taken. How many steps were made in all.
+    #[inline(always)]
+    fn settle(&mut self, moved: u64, outcome: Outcome) -> u64
+        requires { outcome ≢ Outcome.Moved → moved < 2 ^ 64 - 1 }
+        ensures settled { Settled outcome moved result self.old self.new }
         ensures run { self.new.run ≡ self.old.run }
+    {
+        match outcome {
+            Outcome::Moved => moved,
+            Outcome::Ruled => moved + 1,
+            Outcome::Trapped(trap) => {
+                self.trap(trap);
+                moved + 1
+            }
+        }
+    }
+
+    // Counts so many steps that began in this mode.
+    #[inline(always)]
+    #[tactic(auto, using(crate::proofs::WalkLaws::counts))]
+    fn count(&mut self, mode: Mode, steps: u64)
+        ensures after { self.new ≡ record self.old { user_steps = counted_by mode steps self.old.user_steps } }
+        ensures range { IsHart self.new }
+    {
+        let counted = self.user_steps.saturating_add(steps);
+        if mode == Mode::User {
+            self.user_steps = counted;
+        }
+    }
+
+    // Steps of a hart that runs, at most so many and one at least: how many.
+    fn run_on(&mut self, bus: &mut Bus, most: u64) -> u64
+        requires running { self.old.run ≡ Run.Running }
+        requires some { 0 < most }
+        ensures steps { hart_after result (over bus.old self.old) ≡ over bus.new self.new }
+        ensures some { 0 < result }
+        ensures most { result ≤ most }
+        ensures run { self.new.run ≡ Run.Running }
         ensures range { IsHart self.new }
         ensures bytes { IsBus bus.old → IsBus bus.new }
     {
-        if let Err(trap) = self.instruction(bus) {
-            self.trap(trap);
-        }
+        let mode = self.mode;
+        let (moved, outcome) = self.walk_in(bus, mode, most);
+        let steps = self.settle(moved, outcome);
+        self.count(mode, steps);
+        steps
     }
 
-    // Counts a step that begins in user mode.
-    #[inline(always)]
-    fn count(&mut self)
-        ensures after { self.new ≡ counted_step self.old.mode self.old }
-        ensures run { self.new.run ≡ self.old.run }
-    {
-        if self.mode == Mode::User {
-            self.user_steps = self.user_steps.saturating_add(1);
-        }
-    }
-
-    // A step of a hart that does not run; out of line, for the speed of those that do.
+    // A step of a hart that does not run.
     #[cold]
     #[inline(never)]
     fn rest(&mut self, bus: &Bus)
@@ -416,9 +419,44 @@ impl Hart {
         }
     }
 
-    /// One step over the bus and the lines, which may ask for nothing. A held hart begins to run where the start word is not 0.
-    /// One that runs makes one instruction or takes its trap. One that is halted stays as it is.
+    // Steps, at most so many and one at least: how many.
     #[inline(always)]
+    #[tactic(auto, using(crate::proofs::WalkLaws::one_step))]
+    fn go_on(&mut self, bus: &mut Bus, most: u64) -> u64
+        requires { 0 < most }
+        ensures steps { hart_after result (over bus.old self.old) ≡ over bus.new self.new }
+        ensures some { 0 < result }
+        ensures most { result ≤ most }
+        ensures unhalted { IsUnhalted self.old.run → IsUnhalted self.new.run }
+        ensures range { IsHart self.new }
+        ensures bytes { IsBus bus.old → IsBus bus.new }
+    {
+        match self.run {
+            Run::Running => self.run_on(bus, most),
+            Run::Held | Run::Halted { .. } => {
+                self.rest(bus);
+                1
+            }
+        }
+    }
+
+    /// So many steps over the bus, where the debug lines ask for nothing.
+    pub fn run_steps(&mut self, bus: &mut Bus, count: u64)
+        ensures steps { hart_after count (over bus.old self.old) ≡ over bus.new self.new }
+        ensures unhalted { IsUnhalted self.old.run → IsUnhalted self.new.run }
+        ensures range { IsHart self.new }
+        ensures bytes { IsBus bus.old → IsBus bus.new }
+    {
+        // Read, so that what its type says of the hart is known.
+        let _pc = self.pc;
+        let mut made = 0;
+        'steps: while made < count {
+            made += self.go_on(bus, count - made);
+        }
+    }
+
+    /// One step over the bus and the lines, which may ask for nothing. A held hart begins to run where the start word
+    /// is not 0. One that runs makes one instruction or takes its trap. One that is halted stays as it is.
     #[tactic(auto, using(crate::proofs::LinedLaws::lined_step_quiet))]
     pub fn step(&mut self, bus: &mut Bus, lines: &mut DebugLines)
         requires { AreQuiet lines.old }
@@ -429,12 +467,6 @@ impl Hart {
         ensures range { IsHart self.new }
         ensures bytes { IsBus bus.old → IsBus bus.new }
     {
-        match self.run {
-            Run::Running => {
-                self.count();
-                self.execute(bus);
-            }
-            Run::Held | Run::Halted { .. } => self.rest(bus),
-        }
+        self.run_steps(bus, 1);
     }
 }
