@@ -1,10 +1,10 @@
 -- How the grammar of the words reads on from a place, and copies of the words from there.
-use Rattle.std.proofs.Common.{◌≡◌, ◌∙◌, ℕ, zero, suc, ◌+◌, ◌≤◌, ◌++◌, true, false, not, List, [], ◌∷◌, drop, length, Option, Some, None, Result, Ok, Err, ap, sym, add-one, append_assoc, arith}
+use Rattle.std.proofs.Common.{◌≡◌, ◌∙◌, ℕ, zero, suc, ◌+◌, ◌<◌, ◌≤◌, ◌++◌, true, false, not, List, [], ◌∷◌, drop, length, Option, Some, None, Result, Ok, Err, ap, sym, add-one, append_assoc, arith}
 use Rattle.std.proofs.Math.ListN.{drop_of_length-le}
 use Rattle.std.proofs.lemmas.List.{drop-drop}
 use Rattle.std.specs.Prelude.{slice_get, bytes_eq, codes, ok_or}
-use Rattle.spike_front.specs.Words.{command_of, greatest_limit, is_option, is_unbuilt_name, number_within, option_fault, option_value, plain_file, plain_words, limit_value, with_value}
-use Rattle.spike_front.specs.declared.words.UsageKind.TheVariants.{UnknownCommand, BadNumber}
+use Rattle.spike_front.specs.Words.{asm_words, behind_options, command_of, greatest_limit, kernel_words, is_option, is_unbuilt_name, number_within, option_fault, option_value, plain_file, plain_words, limit_value, with_value}
+use Rattle.spike_front.specs.declared.words.UsageKind.TheVariants.{UnknownCommand, UnknownOption, BadNumber}
 use Rattle.spike_front.specs.declared.words.WordFault.{WordFault}
 use Rattle.spike_front.specs.declared.words.WordFault.TheVariants.{Usage, NotBuilt}
 use Rattle.spike_front.proofs.Choices.{if_true, if_false}
@@ -105,24 +105,56 @@ pub words-next : (limit : Option ℕ) (at n : ℕ) (words : List (List ℕ)) (wo
 words-next limit at n words word here dash more known gives =
     words-valued limit at words word (Ok n) here dash more known gives ∙ ap (plain_words (Some n) (at + 2)) (drop-two words at)
 
+-- where the words behind no options begin
+pub behind-none : (words : List (List ℕ)) → length words < 2 → behind_options (drop 1 words) ≡ Ok 1
+behind-none words few = let none : drop 1 words ≡ [] = drop_of_length-le words {i = 1} (omega arith) in ap behind_options none
+
+pub behind-word : (words : List (List ℕ)) (word : List ℕ) → slice_get words 1 ≡ Some word → is_option word ≡ false → behind_options (drop 1 words) ≡ Ok 1
+behind-word words word here plain = ap behind_options (drop-word words 1 word here) ∙ if_true (not (is_option word)) _ _ (ap not plain)
+
+pub behind-dashes : (words : List (List ℕ)) (word : List ℕ) → slice_get words 1 ≡ Some word → is_option word ≡ true → bytes_eq word (codes "--") ≡ true → behind_options (drop 1 words) ≡ Ok 2
+behind-dashes words word here dash both =
+    ap behind_options (drop-word words 1 word here) ∙ if_false (not (is_option word)) _ _ (ap not dash) ∙ if_true (bytes_eq word (codes "--")) _ _ both
+
+pub behind-unknown : (words : List (List ℕ)) (word : List ℕ) → slice_get words 1 ≡ Some word → is_option word ≡ true → bytes_eq word (codes "--") ≡ false
+    → behind_options (drop 1 words) ≡ Err (Usage UnknownOption 1)
+behind-unknown words word here dash more =
+    ap behind_options (drop-word words 1 word here) ∙ if_false (not (is_option word)) _ _ (ap not dash) ∙ if_false (bytes_eq word (codes "--")) _ _ more
+
 -- the first word names the command
+command-first : (words : List (List ℕ)) (name : List ℕ) → slice_get words 0 ≡ Some name → words ≡ name ∷ drop 1 words
+command-first words name here = drop-word words 0 name here
+
+count-behind : (words : List (List ℕ)) (name : List ℕ) → slice_get words 0 ≡ Some name → length (drop 1 words) + 1 ≡ length words
+count-behind words name here = omega (arith, ap length (command-first words name here))
+
 pub command-plain : (words : List (List ℕ)) (name : List ℕ) → slice_get words 0 ≡ Some name → bytes_eq name (codes "plain") ≡ true → command_of words ≡ plain_words None 1 (drop 1 words)
-command-plain [] name here same = cc
-command-plain (word ∷ words) name here same =
-    let first : word ≡ name = cc in
-    if_true (bytes_eq word (codes "plain")) _ _ (ap (λ (w : List ℕ). bytes_eq w (codes "plain")) first ∙ same)
+command-plain words name here same = ap command_of (command-first words name here) ∙ if_true (bytes_eq name (codes "plain")) _ _ same
 
-pub command-unbuilt : (words : List (List ℕ)) (name : List ℕ) → slice_get words 0 ≡ Some name → bytes_eq name (codes "plain") ≡ false → is_unbuilt_name name ≡ true → command_of words ≡ Err NotBuilt
-command-unbuilt [] name here other unbuilt = cc
-command-unbuilt (word ∷ words) name here other unbuilt =
-    let first : word ≡ name = cc in
-    if_false (bytes_eq word (codes "plain")) _ _ (ap (λ (w : List ℕ). bytes_eq w (codes "plain")) first ∙ other)
-    ∙ if_true (is_unbuilt_name word) _ _ (ap is_unbuilt_name first ∙ unbuilt)
+pub command-kernel : (words : List (List ℕ)) (name : List ℕ) → slice_get words 0 ≡ Some name → bytes_eq name (codes "plain") ≡ false → bytes_eq name (codes "kernel") ≡ true
+    → command_of words ≡ kernel_words (length words) (behind_options (drop 1 words))
+command-kernel words name here other same =
+    ap command_of (command-first words name here)
+    ∙ if_false (bytes_eq name (codes "plain")) _ _ other ∙ if_true (bytes_eq name (codes "kernel")) _ _ same
+    ∙ ap (λ n. kernel_words n (behind_options (drop 1 words))) (count-behind words name here)
 
-pub command-unknown : (words : List (List ℕ)) (name : List ℕ) → slice_get words 0 ≡ Some name → bytes_eq name (codes "plain") ≡ false → is_unbuilt_name name ≡ false
-    → command_of words ≡ Err (Usage UnknownCommand 0)
-command-unknown [] name here other unknown = cc
-command-unknown (word ∷ words) name here other unknown =
-    let first : word ≡ name = cc in
-    if_false (bytes_eq word (codes "plain")) _ _ (ap (λ (w : List ℕ). bytes_eq w (codes "plain")) first ∙ other)
-    ∙ if_false (is_unbuilt_name word) _ _ (ap is_unbuilt_name first ∙ unknown)
+pub command-asm : (words : List (List ℕ)) (name : List ℕ) → slice_get words 0 ≡ Some name → bytes_eq name (codes "plain") ≡ false → bytes_eq name (codes "kernel") ≡ false → bytes_eq name (codes "asm") ≡ true
+    → command_of words ≡ asm_words (length words) (behind_options (drop 1 words))
+command-asm words name here plain kernel same =
+    ap command_of (command-first words name here)
+    ∙ if_false (bytes_eq name (codes "plain")) _ _ plain ∙ if_false (bytes_eq name (codes "kernel")) _ _ kernel ∙ if_true (bytes_eq name (codes "asm")) _ _ same
+    ∙ ap (λ n. asm_words n (behind_options (drop 1 words))) (count-behind words name here)
+
+pub command-unbuilt : (words : List (List ℕ)) (name : List ℕ) → slice_get words 0 ≡ Some name → bytes_eq name (codes "plain") ≡ false → bytes_eq name (codes "kernel") ≡ false → bytes_eq name (codes "asm") ≡ false
+    → is_unbuilt_name name ≡ true → command_of words ≡ Err NotBuilt
+command-unbuilt words name here plain kernel asm unbuilt =
+    ap command_of (command-first words name here)
+    ∙ if_false (bytes_eq name (codes "plain")) _ _ plain ∙ if_false (bytes_eq name (codes "kernel")) _ _ kernel ∙ if_false (bytes_eq name (codes "asm")) _ _ asm
+    ∙ if_true (is_unbuilt_name name) _ _ unbuilt
+
+pub command-unknown : (words : List (List ℕ)) (name : List ℕ) → slice_get words 0 ≡ Some name → bytes_eq name (codes "plain") ≡ false → bytes_eq name (codes "kernel") ≡ false → bytes_eq name (codes "asm") ≡ false
+    → is_unbuilt_name name ≡ false → command_of words ≡ Err (Usage UnknownCommand 0)
+command-unknown words name here plain kernel asm unknown =
+    ap command_of (command-first words name here)
+    ∙ if_false (bytes_eq name (codes "plain")) _ _ plain ∙ if_false (bytes_eq name (codes "kernel")) _ _ kernel ∙ if_false (bytes_eq name (codes "asm")) _ _ asm
+    ∙ if_false (is_unbuilt_name name) _ _ unknown

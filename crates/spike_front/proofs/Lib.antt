@@ -4,5 +4,9 @@ pub mod Grammar
 pub mod FileReads
 pub mod TreeFacts
 pub mod Plans
+pub mod Lines
+pub mod Sources
 pub mod Stages
+pub mod PlanFacts
+pub mod Listed
 pub mod Endings

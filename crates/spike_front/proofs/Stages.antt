@@ -101,5 +101,5 @@ rose_said e result a other said cause = record {
 pub said_as : (a e result : Answer) → e ≡ a → IsSaid e result → IsSaid a result
 said_as a e result same said = subst (λ (b : Answer). IsSaid b result) same said
 
-pub reported_at : (result : Answer) (steps m : ℕ) (before after : Option (List ℕ)) → steps ≡ m → Reported result steps before after → Reported result m before after
+pub reported_at : (result : Answer) (steps m : Option ℕ) (before after : Option (List ℕ)) → steps ≡ m → Reported result steps before after → Reported result m before after
 reported_at result steps m before after same reported = λ held told. reported held told ∙ ap (λ n. Some (held ++ line_of result n)) same

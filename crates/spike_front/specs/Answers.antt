@@ -1,14 +1,15 @@
 -- Where the work stands as an answer comes, and the classes of answers that the contracts speak of.
 use Rattle.std.specs.Prelude.{◌≡◌, ◌⊎◌, ◌==◌, if◌then◌else◌}
 use Rattle.spike_front.specs.declared.answer.Answer.{Answer}
-use Rattle.spike_front.specs.declared.answer.Answer.TheVariants.{Exited, Usage, NoProgram, BadElf, ArgsTooLong, StepsSpent, FileFault, InputFault, ConsoleFault, ReportFault, OutOfMemory, NotBuilt}
+use Rattle.spike_front.specs.declared.answer.Answer.TheVariants.{Done, Exited, Usage, NoProgram, BadElf, ArgsTooLong, BadAsm, StepsSpent, FileFault, InputFault, ConsoleFault, ReportFault, OutOfMemory, NotBuilt}
 
--- where the work stands: the words are refused, or the file with its arguments; a run has gone to its end, to its limit
--- or to a step that is not built; the folder failed or there was no memory; the input or the console failed; the
--- report's line could not be put
+-- where the work stands: the words are refused, or the file with its arguments; a listing was put; a run has gone to
+-- its end, to its limit or to a step that is not built; the folder failed or there was no memory; the input or the
+-- console failed; the report's line could not be put
 pub data Stage : Type 0 where
   words_refused : Stage
   file_refused : Stage
+  listing_put : Stage
   run_made : Stage
   work_stopped : Stage
   stream_failed : Stage
@@ -16,11 +17,13 @@ pub data Stage : Type 0 where
 
 -- where the work stands as each answer comes
 abbrev pub stage_of : Answer → Stage
+stage_of Done = listing_put
 stage_of (Exited status) = run_made
 stage_of (Usage kind place) = words_refused
 stage_of NoProgram = file_refused
 stage_of (BadElf fault) = file_refused
 stage_of (ArgsTooLong n) = file_refused
+stage_of (BadAsm line kind) = file_refused
 stage_of (StepsSpent n) = run_made
 stage_of FileFault = work_stopped
 stage_of InputFault = stream_failed

@@ -1,7 +1,8 @@
 -- The file that a word names: what is found at its path, and what finding it leaves of a tree.
-use Rattle.std.specs.Prelude.{◌≡◌, ◌<◌, ◌≤◌, ◌⊎◌, ℕ, List, length, Option, Some, None}
-use Rattle.folder_tree.specs.Paths.{Parts}
-use Rattle.folder_tree.specs.Tree.{Tree, files_of, number_at}
+use Rattle.std.specs.Prelude.{◌≡◌, ◌<◌, ◌≤◌, ◌⊎◌, ℕ, ⊤, List, length, Option, Some, None, Result, Ok, Err}
+use Rattle.fe_base.specs.declared.error_numbers.ErrNo.{ErrNo}
+use Rattle.folder_tree.specs.Paths.{Parts, path_of}
+use Rattle.folder_tree.specs.Tree.{Tree, file_of, files_of, number_at}
 use Rattle.folder_tree.specs.TreeOps.{opened}
 use Rattle.folder_tree.specs.declared.folder.FolderStop.{FolderStop}
 use Rattle.folder_tree.specs.declared.folder.FolderStop.TheVariants.{Failed, NoMemory}
@@ -9,6 +10,15 @@ use Rattle.spike_front.specs.declared.file.Stop.{Stop}
 use Rattle.spike_front.specs.declared.file.Stop.TheVariants.{FileFault, OutOfMemory}
 use Rattle.spike_front.specs.declared.file.FoundFile.{FoundFile}
 use Rattle.spike_front.specs.declared.file.FoundFile.TheVariants.{Missing, TooLarge, Bytes}
+
+-- the file at a path that was read; what is no path names none
+abbrev pub file_at : Result Parts ErrNo → Tree → Option (List ℕ)
+file_at (Ok path) t = file_of t path
+file_at (Err number) t = None
+
+-- the file that a word names
+abbrev pub file_named : List ℕ → Tree → Option (List ℕ)
+file_named word t = file_at (path_of word) t
 
 -- what was read of an open file with these bytes, where at most so many are read
 abbrev pub IsReadOf : ℕ → List ℕ → FoundFile → Type 0
@@ -21,6 +31,12 @@ abbrev pub IsFound : ℕ → Option (List ℕ) → FoundFile → Type 0
 IsFound limit file Missing = file ≡ None
 IsFound limit file TooLarge = (bytes : List ℕ) × (file ≡ Some bytes) × (limit < length bytes)
 IsFound limit file (Bytes read) = (file ≡ Some read.items) × (length read.items ≤ limit)
+
+-- what was found has at most so many bytes, whatever the folder tells
+abbrev pub IsBounded : ℕ → FoundFile → Type 0
+IsBounded limit Missing = ⊤
+IsBounded limit TooLarge = ⊤
+IsBounded limit (Bytes read) = length read.items ≤ limit
 
 -- why a folder's call stops the work
 abbrev pub stop_of : FolderStop → Stop

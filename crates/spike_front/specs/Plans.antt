@@ -1,27 +1,33 @@
--- What the words ask for, over a tree of files: a refusal, or a run.
-use Rattle.std.specs.Prelude.{◌≡◌, ◌<◌, ◌≤◌, ℕ, ⊤, nat_le, if◌then◌else◌, List, [], drop, slice_index_or, Option, Some, None, Result, Ok, Err}
-use Rattle.fe_base.specs.Limits.{main_vars_limit}
+-- What the words ask for, over a tree of files: a refusal, a listing, or a run.
+use Rattle.std.specs.Prelude.{◌≡◌, ◌<◌, ◌≤◌, ◌⊎◌, ℕ, ⊤, nat_le, if◌then◌else◌, List, [], drop, length, slice_index_or, Option, Some, None, Result, Ok, Err}
+use Rattle.fe_base.specs.Limits.{assembly_file_limit, main_vars_limit}
 use Rattle.fe_base.specs.WordLists.{main_vars_length}
-use Rattle.fe_base.specs.declared.error_numbers.ErrNo.{ErrNo}
-use Rattle.folder_tree.specs.Paths.{Parts, path_of}
-use Rattle.folder_tree.specs.Tree.{Tree, IsWellFormed, file_of}
+use Rattle.folder_tree.specs.Tree.{Tree, IsWellFormed}
 use Rattle.elf_loader.specs.ElfFile.{IsFit, fault_of, image_of}
 use Rattle.elf_loader.specs.declared.image.Image.{Image}
 use Rattle.elf_loader.specs.declared.fault.ElfFault.{ElfFault}
+use Rattle.asm_items.specs.ItemMeaning.{Part, assembled}
+use Rattle.asm_items.specs.declared.fault.AsmFault.{AsmFault}
+use Rattle.asm_items.specs.declared.fault.AsmFault.TheVariants.{UnknownLabel, LabelTwice, OutOfReach, OutOfMemory as NoMemory}
+use Rattle.asm_text.specs.Faults.{number_of}
+use Rattle.asm_text.specs.Texts.{Found, text_items}
 use Rattle.spike_front.specs.Words.{command_of, usage_number}
-use Rattle.spike_front.specs.Answers.{IsRefusal}
+use Rattle.spike_front.specs.Answers.{IsRefusal, file_refused, stage_of}
+use Rattle.spike_front.specs.FoundFiles.{file_named}
+use Rattle.spike_front.specs.Listings.{Listing, Lists, code_listing, kernel_listing}
 use Rattle.spike_front.specs.declared.words.Command.{Command}
-use Rattle.spike_front.specs.declared.words.Command.TheVariants.{Plain}
+use Rattle.spike_front.specs.declared.words.Command.TheVariants.{Plain, Kernel, Asm}
 use Rattle.spike_front.specs.declared.words.WordFault.{WordFault}
 use Rattle.spike_front.specs.declared.words.WordFault.TheVariants.{Usage as WordUsage, NotBuilt as WordNotBuilt}
 use Rattle.spike_front.specs.declared.answer.Answer.{Answer}
-use Rattle.spike_front.specs.declared.answer.Answer.TheVariants.{Usage, NoProgram, BadElf, ArgsTooLong, NotBuilt}
+use Rattle.spike_front.specs.declared.answer.Answer.TheVariants.{Usage, NoProgram, BadElf, ArgsTooLong, BadAsm, OutOfMemory, NotBuilt}
 use Rattle.spike_front.specs.declared.plan.Plan.{Plan}
-use Rattle.spike_front.specs.declared.plan.Plan.TheVariants.{Refuse, Run}
+use Rattle.spike_front.specs.declared.plan.Plan.TheVariants.{Refuse, Put, Run}
 
--- what is done: a refusal with an answer, or a run of an image with arguments for so many steps at most
+-- what is done: a refusal with an answer, a listing, or a run of an image with arguments for so many steps at most
 pub data Planned : Type 0 where
   refuse : Answer → Planned
+  put : Listing → Planned
   run : Image → List (List ℕ) → ℕ → Planned
 
 -- a program is run with its arguments, unless their main vars are too long
@@ -40,14 +46,33 @@ abbrev pub planned_file : ℕ → List (List ℕ) → Option (List ℕ) → Plan
 planned_file limit args None = refuse NoProgram
 planned_file limit args (Some bytes) = planned_image limit args bytes (fault_of bytes)
 
--- a word that is no path names no program
-abbrev pub planned_path : ℕ → List (List ℕ) → Result Parts ErrNo → Tree → Planned
-planned_path limit args (Ok path) t = planned_file limit args (file_of t path)
-planned_path limit args (Err number) t = refuse NoProgram
+-- the file that the word at this place names
+abbrev pub named_file : ℕ → List (List ℕ) → Tree → Option (List ℕ)
+named_file file words t = file_named (slice_index_or words file []) t
 
 -- a run of the file that the word at this place names: the arguments are that word and those behind it
 abbrev pub planned_run : ℕ → ℕ → List (List ℕ) → Tree → Planned
-planned_run limit file words t = planned_path limit (drop file words) (path_of (slice_index_or words file [])) t
+planned_run limit file words t = planned_file limit (drop file words) (named_file file words t)
+
+-- the items of assembly text whose lines these are: their parts are listed, or the first item with a fault is told by
+-- its line. No meaning has the fault OutOfMemory
+abbrev pub planned_items : List ℕ → Result (List Part) AsmFault → Planned
+planned_items lines (Ok parts) = put (code_listing parts)
+planned_items lines (Err (UnknownLabel item)) = refuse (BadAsm (slice_index_or lines item 0) 6)
+planned_items lines (Err (LabelTwice item)) = refuse (BadAsm (slice_index_or lines item 0) 7)
+planned_items lines (Err (OutOfReach item)) = refuse (BadAsm (slice_index_or lines item 0) 8)
+planned_items lines (Err NoMemory) = refuse OutOfMemory
+
+-- a text with a fault is refused by its first one; the items of every other are assembled at 0
+abbrev pub planned_text : Found → Planned
+planned_text (Ok found) = planned_items found.1 (assembled 0 found.0)
+planned_text (Err fault) = refuse (BadAsm fault.0 (number_of fault.1))
+
+-- a file that is too large is refused for its size alone; no file is no program
+abbrev pub planned_source : Option (List ℕ) → Planned
+planned_source None = refuse NoProgram
+planned_source (Some bytes) =
+    if nat_le (length bytes) assembly_file_limit then planned_text (text_items bytes) else refuse (BadAsm 0 9)
 
 -- how words that are no command are answered
 abbrev pub answer_of_fault : WordFault → Answer
@@ -66,6 +91,8 @@ words_refusal words = refusal_of (command_of words)
 -- words that are no command are refused first
 abbrev pub planned_command : Result Command WordFault → List (List ℕ) → Tree → Planned
 planned_command (Ok (Plain limit file)) words t = planned_run limit file words t
+planned_command (Ok Kernel) words t = put kernel_listing
+planned_command (Ok (Asm file)) words t = planned_source (named_file file words t)
 planned_command (Err fault) words t = refuse (answer_of_fault fault)
 
 -- what the words ask for, over a tree of files
@@ -87,22 +114,54 @@ AreTooLong words n = (limit : ℕ) × (file : ℕ) × (command_of words ≡ Ok (
 abbrev pub HasLimit : List (List ℕ) → ℕ → Type 0
 HasLimit words n = (file : ℕ) × (command_of words ≡ Ok (Plain n file))
 
--- what a plan that was made stands for
-abbrev pub shown : Plan → Planned
-shown (Refuse answer) = refuse answer
-shown (Run image args limit) = run image args limit
+-- the words' command puts a listing
+abbrev pub IsListing : Result Command WordFault → Type 0
+IsListing (Ok (Plain limit file)) = ⊥
+IsListing (Ok Kernel) = ⊤
+IsListing (Ok (Asm file)) = ⊤
+IsListing (Err fault) = ⊥
+
+-- the words' command names no file, or they are no command
+abbrev pub NamesNone : Result Command WordFault → Type 0
+NamesNone (Ok (Plain limit file)) = ⊥
+NamesNone (Ok Kernel) = ⊤
+NamesNone (Ok (Asm file)) = ⊥
+NamesNone (Err fault) = ⊤
+
+-- the words ask for this listing: `kernel`, or an assembly file of a told tree that has it
+abbrev pub AsksListing : List (List ℕ) → Listing → Option Tree → Type 0
+AsksListing words listing told = ((command_of words ≡ Ok Kernel) × (listing ≡ kernel_listing))
+    ⊎ ((t : Tree) × Plans words t (put listing) told)
+
+-- a plan that was made is what is planned: the same refusal or run, or a text that lists the listing
+abbrev pub IsPlan : Plan → Planned → Type 0
+IsPlan (Refuse answer) planned = planned ≡ refuse answer
+IsPlan (Put text) planned = (listing : Listing) × (planned ≡ put listing) × Lists listing text
+IsPlan (Run image args limit) planned = planned ≡ run image args limit
 
 -- a plan refuses with a refusal, or has an image that may be run, arguments that fit, and some steps to make
 abbrev pub FitsPlan : Plan → Type 0
 FitsPlan (Refuse answer) = IsRefusal answer
+FitsPlan (Put text) = ⊤
 FitsPlan (Run image args limit) = IsFit image × (main_vars_length args ≤ main_vars_limit) × (0 < limit)
 
--- a plan that runs a program has this limit of steps
-abbrev pub HasSteps : Plan → ℕ → Type 0
-HasSteps (Refuse answer) steps = ⊤
-HasSteps (Run image args limit) steps = limit ≡ steps
+-- a plan for a program with these arguments and this limit: a refusal of the file or of the arguments' length, or a run
+abbrev pub IsProgramPlan : List (List ℕ) → ℕ → Plan → Type 0
+IsProgramPlan args limit (Refuse answer) = (stage_of answer ≡ file_refused)
+    × ((n : ℕ) → answer ≡ ArgsTooLong n → (n ≡ main_vars_length args) × (main_vars_limit < n))
+IsProgramPlan args limit (Put text) = ⊥
+IsProgramPlan args limit (Run image arguments most) =
+    IsFit image × (main_vars_length arguments ≤ main_vars_limit) × (most ≡ limit)
 
--- a plan that runs a program has the limit of the words' command
-abbrev pub HasLimitOf : List (List ℕ) → Plan → Type 0
-HasLimitOf words (Refuse answer) = ⊤
-HasLimitOf words (Run image args limit) = HasLimit words limit
+-- a plan for an assembly file: a refusal of the file, or a text
+abbrev pub IsSourcePlan : Plan → Type 0
+IsSourcePlan (Refuse answer) = (stage_of answer ≡ file_refused) × ((n : ℕ) → answer ≡ ArgsTooLong n → ⊥)
+IsSourcePlan (Put text) = ⊤
+IsSourcePlan (Run image args limit) = ⊥
+
+-- a plan for these words and what was read of them, whatever the folder holds
+abbrev pub IsPlanFor : Result Command WordFault → List (List ℕ) → Plan → Type 0
+IsPlanFor (Ok (Plain limit file)) words plan = IsProgramPlan (drop file words) limit plan
+IsPlanFor (Ok Kernel) words plan = IsPlan plan (put kernel_listing)
+IsPlanFor (Ok (Asm file)) words plan = IsSourcePlan plan
+IsPlanFor (Err fault) words plan = plan ≡ Refuse (answer_of_fault fault)

@@ -1,11 +1,11 @@
 -- The words of the command line: which are a command, and where and how all others fail first.
-use Rattle.std.specs.Prelude.{ℕ, ◌+◌, ◌<◌, ◌==◌, ◌&&◌, ◌||◌, not, nat_lt, nat_le, if◌then◌else◌, Bool, false, List, [], ◌∷◌, length, codes, bytes_eq, Option, Some, None, is_some, unwrap_or, ok_or, Result, Ok, Err}
+use Rattle.std.specs.Prelude.{ℕ, ⊤, ◌+◌, ◌<◌, ◌==◌, ◌&&◌, ◌||◌, not, nat_lt, nat_le, if◌then◌else◌, Bool, false, List, [], ◌∷◌, length, codes, bytes_eq, Option, Some, None, is_some, unwrap_or, ok_or, Result, Ok, Err}
 use Rattle.std.specs.Str.{all_ascii_digits}
 use Rattle.std.specs.Str.Parse.{digits_value}
 use Rattle.spike_front.specs.declared.words.Command.{Command}
-use Rattle.spike_front.specs.declared.words.Command.TheVariants.{Plain}
+use Rattle.spike_front.specs.declared.words.Command.TheVariants.{Plain, Kernel, Asm}
 use Rattle.spike_front.specs.declared.words.UsageKind.{UsageKind}
-use Rattle.spike_front.specs.declared.words.UsageKind.TheVariants.{NoCommand, UnknownCommand, UnknownOption, OptionRepeated, ValueMissing, BadNumber, FileMissing}
+use Rattle.spike_front.specs.declared.words.UsageKind.TheVariants.{NoCommand, UnknownCommand, UnknownOption, OptionRepeated, ValueMissing, BadNumber, FileMissing, WordTooMany}
 use Rattle.spike_front.specs.declared.words.WordFault.{WordFault}
 use Rattle.spike_front.specs.declared.words.WordFault.TheVariants.{Usage, NotBuilt}
 
@@ -18,6 +18,7 @@ usage_number OptionRepeated = 4
 usage_number ValueMissing = 5
 usage_number BadNumber = 6
 usage_number FileMissing = 9
+usage_number WordTooMany = 10
 
 -- the limit of steps, where the words give none
 abbrev pub default_limit : ℕ
@@ -29,8 +30,7 @@ greatest_limit = 1000000000000
 
 -- a name of a command that is not built
 abbrev pub is_unbuilt_name : List ℕ → Bool
-is_unbuilt_name name = bytes_eq name (codes "run") || bytes_eq name (codes "kernel") || bytes_eq name (codes "asm")
-    || bytes_eq name (codes "demo")
+is_unbuilt_name name = bytes_eq name (codes "run") || bytes_eq name (codes "demo")
 
 -- a word that is an option, or that ends the options: two or more bytes, the first of them a dash
 abbrev pub is_option : List ℕ → Bool
@@ -88,14 +88,46 @@ plain_words limit place (word ∷ next ∷ words) =
     else if bytes_eq word (codes "--") then plain_file limit (place + 1) (next ∷ words)
     else with_value (option_value (option_fault limit place word) place (next ∷ words)) (λ value. plain_words (Some value) (place + 2) words)
 
+-- where the words behind the options begin, of a command that has none: behind `--`, if that comes first
+abbrev pub behind_options : List (List ℕ) → Result ℕ WordFault
+behind_options [] = Ok 1
+behind_options (word ∷ words) =
+    if not (is_option word) then Ok 1
+    else if bytes_eq word (codes "--") then Ok 2
+    else Err (Usage UnknownOption 1)
+
+-- `kernel`, of so many words, where its own begin at a place: there are none
+abbrev pub kernel_words : ℕ → Result ℕ WordFault → Result Command WordFault
+kernel_words count (Ok place) = if nat_le count place then Ok Kernel else Err (Usage WordTooMany place)
+kernel_words count (Err fault) = Err fault
+
+-- `asm`, of so many words, where its own begin at a place: FILE alone
+abbrev pub asm_words : ℕ → Result ℕ WordFault → Result Command WordFault
+asm_words count (Ok place) =
+    if nat_le count place then Err (Usage FileMissing place)
+    else if nat_le count (place + 1) then Ok (Asm place)
+    else Err (Usage WordTooMany (place + 1))
+asm_words count (Err fault) = Err fault
+
 -- the command that the words are, or their first failure from the left
 abbrev pub command_of : List (List ℕ) → Result Command WordFault
 command_of [] = Err (Usage NoCommand 0)
 command_of (name ∷ words) =
     if bytes_eq name (codes "plain") then plain_words None 1 words
+    else if bytes_eq name (codes "kernel") then kernel_words (length words + 1) (behind_options words)
+    else if bytes_eq name (codes "asm") then asm_words (length words + 1) (behind_options words)
     else if is_unbuilt_name name then Err NotBuilt
     else Err (Usage UnknownCommand 0)
 
 -- some steps may be made, and FILE is one of so many words
 abbrev pub IsSound : ℕ → Command → Type 0
 IsSound count (Plain limit file) = (0 < limit) × (file < count)
+IsSound count Kernel = ⊤
+IsSound count (Asm file) = file < count
+
+-- what a command counts before its first step: a run its steps, the others nothing
+abbrev pub first_count : Result Command WordFault → Option ℕ
+first_count (Ok (Plain limit file)) = Some 0
+first_count (Ok Kernel) = None
+first_count (Ok (Asm file)) = None
+first_count (Err fault) = None

@@ -6,6 +6,8 @@ use elf_loader::ElfFault;
 /// How a command line was answered.
 #[derive(Clone, Copy, Debug, PartialEq, Eq)]
 pub enum Answer {
+    /// The listing was put on the console.
+    Done,
     /// The program ended by itself, with this status.
     Exited(u8),
     /// The words fail: the number of how, and the index of the word that does, or the number of
@@ -17,6 +19,8 @@ pub enum Answer {
     BadElf(ElfFault),
     /// The arguments would take so many bytes on the program's stack, which is more than 65,536.
     ArgsTooLong(u64),
+    /// The line of the assembly text has a fault of this kind, or the file is too large: kind 9 at line 0.
+    BadAsm(u64, u8),
     /// So many steps were made, which is the limit, and the program has not ended.
     StepsSpent(u64),
     /// The folder failed.
@@ -41,6 +45,7 @@ impl Answer {
         ensures { result ≡ code_of self.now }
     {
         match self {
+            Answer::Done => 0,
             Answer::Exited(status) => *status,
             Answer::Usage(_, _) => 64,
             Answer::NoProgram => 65,
@@ -51,6 +56,7 @@ impl Answer {
             Answer::ConsoleFault => 72,
             Answer::ReportFault => 73,
             Answer::OutOfMemory => 74,
+            Answer::BadAsm(_, _) => 75,
             Answer::NotBuilt(_) => 77,
             Answer::StepsSpent(_) => 78,
         }

@@ -2,10 +2,10 @@
 ghost use Rattle.std.specs.Prelude.{◌≡◌, ◌≤◌, ◌<◌, IfOk, IsErrOf, Some, length, take, nat_lt, true};
 ghost use Rattle.folder_tree.specs.Tree.{Tree, IsWellFormed, bytes_of, file_of, opens_of};
 ghost use Rattle.spike_front.specs.Causes.{RoseFor};
-ghost use Rattle.spike_front.specs.FoundFiles.{IsFound, IsReadOf, HasFiles, StaysOrOpens};
+ghost use Rattle.spike_front.specs.FoundFiles.{IsBounded, IsFound, IsReadOf, file_named, HasFiles, StaysOrOpens};
 
 use fe_base::limits::TRANSFER_LIMIT;
-use folder_tree::{Folder, FolderStop, Path, PathKind};
+use folder_tree::{Folder, FolderStop, Path, PathKind, read_path};
 use std::alloc::{AllocError, Global};
 
 /// What stands at a path.
@@ -85,6 +85,7 @@ fn read_open<F: Folder>(
     number: u64,
     size: usize,
 ) -> Result<Vec<u8>, Stop>
+    ensures bound { IfOk result (λ bytes. length bytes.items ≤ size) }
     ensures told { IfOk result (λ bytes. (t : Tree) → F.tree folder.old ≡ Some t → size ≡ length (bytes_of t number)
         → bytes.items ≡ bytes_of t number) }
     ensures tree { (t : Tree) → F.tree folder.old ≡ Some t → F.tree folder.new ≡ Some t }
@@ -112,6 +113,7 @@ fn read_file<F: Folder>(
     number: u64,
     limit: u64,
 ) -> Result<FoundFile, Stop>
+    ensures bound { IfOk result (IsBounded limit) }
     ensures told { IfOk result (λ found. (t : Tree) → F.tree folder.old ≡ Some t
         → IsReadOf limit (bytes_of t number) found) }
     ensures tree { (t : Tree) → F.tree folder.old ≡ Some t → F.tree folder.new ≡ Some t }
@@ -127,13 +129,36 @@ fn read_file<F: Folder>(
     Ok(FoundFile::Bytes(bytes))
 }
 
-/// What stands at a path, with the bytes of a file of at most so many. A file is opened, read and released again.
-pub fn find_file<F: Folder>(
+/// The file that a word names, with its bytes where these are at most so many. It is opened, read and released again.
+pub fn find_named<F: Folder>(
+    alloc: Global,
+    folder: &mut F,
+    word: &str,
+    limit: u64,
+) -> Result<FoundFile, Stop>
+    ensures bound { IfOk result (IsBounded limit) }
+    ensures told { IfOk result (λ found. (t : Tree) → IsWellFormed t → F.tree folder.old ≡ Some t
+        → IsFound limit (file_named word.now t) found × (F.tree folder.new ≡ Some t)) }
+    ensures files { (t : Tree) → F.tree folder.old ≡ Some t → HasFiles t (F.tree folder.new) }
+    ensures opens { (t : Tree) → IsWellFormed t → F.tree folder.old ≡ Some t → StaysOrOpens t (F.tree folder.new) }
+    ensures cause { RoseFor (IsErrOf result Stop.FileFault) (F.faults folder.old) (F.faults folder.new) }
+    ensures steady { (t : Tree) → F.tree folder.old ≡ Some t → F.steady folder.old
+        → (IsErrOf result Stop.FileFault → ⊥) × F.steady folder.new }
+{
+    let Ok(path) = read_path(word.as_bytes()) else {
+        return Ok(FoundFile::Missing);
+    };
+    find_file(alloc, folder, &path, limit)
+}
+
+// What stands at a path.
+fn find_file<F: Folder>(
     alloc: Global,
     folder: &mut F,
     path: &Path,
     limit: u64,
 ) -> Result<FoundFile, Stop>
+    ensures bound { IfOk result (IsBounded limit) }
     ensures told { IfOk result (λ found. (t : Tree) → IsWellFormed t → F.tree folder.old ≡ Some t
         → IsFound limit (file_of t path.now) found × (F.tree folder.new ≡ Some t)) }
     ensures files { (t : Tree) → F.tree folder.old ≡ Some t → HasFiles t (F.tree folder.new) }

@@ -1,23 +1,33 @@
 // The top call: from the words to the answer.
-ghost use Rattle.std.specs.Prelude.{◌≡◌, ◌≢◌, [], ◌+◌, ◌⊎◌, ℕ, Some, IsSome, length};
+ghost use Rattle.std.specs.Prelude.{◌≡◌, ◌≢◌, [], ◌+◌, ◌++◌, ◌⊎◌, ℕ, List, Option, Some, None, Ok, IsSome, length};
 ghost use Rattle.fe_base.specs.Outside.{capacity, PutSuits};
 ghost use Rattle.folder_tree.specs.Tree.{Tree, IsWellFormed};
 ghost use Rattle.plain_machine.specs.Direct.{HasRoomFor, step_puts};
 ghost use Rattle.spike_front.specs.Answers.{IsEarly, IsRefusal, IsSaid, IsStop, IsWordsRefusal};
 ghost use Rattle.spike_front.specs.Causes.{RoseFor};
-ghost use Rattle.spike_front.specs.Plans.{AreTooLong, HasLimit, Plans, plan_of, refuse, words_refusal};
+ghost use Rattle.spike_front.specs.Listings.{Listed, Listing, ListingSuits};
+ghost use Rattle.spike_front.specs.Plans.{AreTooLong, AsksListing, HasLimit, IsListing, NamesNone, Plans, plan_of, put, refuse, words_refusal};
 ghost use Rattle.spike_front.specs.FoundFiles.{HasFiles, StaysOrOpens};
 ghost use Rattle.spike_front.specs.Report.{Reported};
 ghost use Rattle.spike_front.specs.Runs.{Asks, IsTimely, Ran, RunCase, state_after};
+ghost use Rattle.spike_front.specs.Words.{command_of, first_count};
 
 use crate::answer::Answer;
 use crate::file::Stop;
 use crate::plan::{Plan, make_plan};
 use crate::report::line_of;
-use crate::run::{Ending, run_program};
-use fe_base::{Sink, Source, Words};
+use crate::run::run_program;
+use crate::words::{first_count, read_command};
+use fe_base::{Bytes, Sink, Source, Words};
 use folder_tree::Folder;
 use std::alloc::Global;
+
+/// An answer, and how many steps were made before it, where steps are counted.
+#[derive(Clone, Copy)]
+struct Ending {
+    answer: Answer,
+    steps: Option<u64>,
+}
 
 /// Does what the words after the program's name ask for, and puts the report's last line.
 pub fn front<I: Source, C: Sink, R: Sink, F: Folder>(
@@ -32,9 +42,10 @@ pub fn front<I: Source, C: Sink, R: Sink, F: Folder>(
     // nothing but the report is called.
     ensures words { IsWordsRefusal result → words_refusal words.now ≡ Some result }
     ensures other_words { (a : Answer) → words_refusal words.now ≡ Some a → IsSaid a result
-        × Reported result 0 (R.held report.old) (R.held report.new) }
+        × Reported result (first_count (command_of words.now)) (R.held report.old) (R.held report.new) }
     ensures other_words_untouched { IsSome (words_refusal words.now) → (input.new ≡ input.old)
         × (console.new ≡ console.old) × (folder.new ≡ folder.old) }
+    ensures no_file_untouched { NamesNone (command_of words.now) → folder.new ≡ folder.old }
 
     // The other refusals are answered exactly where the tree of files says so, but for what stops the work before; and
     // then neither input nor console was called, and all files are as they were.
@@ -42,7 +53,7 @@ pub fn front<I: Source, C: Sink, R: Sink, F: Folder>(
         → plan_of words.now t ≡ refuse result }
     ensures refused { (t : Tree) (a : Answer) → Plans words.now t (refuse a) (F.tree folder.old)
         → (answer : Answer) × ((answer ≡ a) ⊎ IsStop answer) × IsSaid answer result
-        × Reported result 0 (R.held report.old) (R.held report.new)
+        × Reported result (first_count (command_of words.now)) (R.held report.old) (R.held report.new)
         × RoseFor (answer ≡ Answer.FileFault) (F.faults folder.old) (F.faults folder.new)
         × (F.steady folder.old → answer ≡ Answer.FileFault → ⊥)
         × ((IsStop answer → ⊥) → F.tree folder.new ≡ Some t) }
@@ -52,13 +63,29 @@ pub fn front<I: Source, C: Sink, R: Sink, F: Folder>(
     // Whatever the objects tell: what comes before a first step left input and console alone, and what is answered of
     // the arguments' length and of the limit is so of the words. Of a tree that is told all is as it was, but that one
     // of its files may be open once more. A report that is told has grown by exactly the line of the answer, with some
-    // number of steps: 0 for what comes before a first step, and the limit where that was spent.
+    // number of steps: 0 for what comes before a first step of a run, none of a command that runs nothing, and the
+    // limit where that was spent. Done comes only of a command that puts a listing, and then the report was not called.
     ensures early_untouched { IsEarly result → (input.new ≡ input.old) × (console.new ≡ console.old) }
     ensures too_long { (n : ℕ) → result ≡ Answer.ArgsTooLong n → AreTooLong words.now n }
     ensures spent { (n : ℕ) → result ≡ Answer.StepsSpent n → HasLimit words.now n }
     ensures opens { (t : Tree) → IsWellFormed t → F.tree folder.old ≡ Some t → StaysOrOpens t (F.tree folder.new) }
-    ensures reported { (steps : ℕ) × Reported result steps (R.held report.old) (R.held report.new)
-        × (IsEarly result → steps ≡ 0) × ((n : ℕ) → result ≡ Answer.StepsSpent n → steps ≡ n) }
+    ensures reported { (steps : Option ℕ) × Reported result steps (R.held report.old) (R.held report.new)
+        × (IsEarly result → steps ≡ first_count (command_of words.now))
+        × (IsListing (command_of words.now) → steps ≡ None)
+        × ((n : ℕ) → result ≡ Answer.StepsSpent n → steps ≡ Some n) }
+    ensures done { result ≡ Answer.Done → IsListing (command_of words.now) × (report.new ≡ report.old) }
+
+    // A listing is put whole, by one put, or the console is as it was. Done comes exactly where it was put. A steady
+    // console with room for it, and a steady folder, fail no listing.
+    ensures listed { (listing : Listing) → AsksListing words.now listing (F.tree folder.old)
+        → (answer : Answer) × Listed listing answer (C.held console.old) (C.held console.new)
+        × IsSaid answer result × Reported result None (R.held report.old) (R.held report.new)
+        × RoseFor (answer ≡ Answer.ConsoleFault) (C.faults console.old) (C.faults console.new)
+        × RoseFor (answer ≡ Answer.FileFault) (F.faults folder.old) (F.faults folder.new)
+        × (C.steady console.old → ListingSuits listing (C.room console.old) → answer ≡ Answer.ConsoleFault → ⊥)
+        × ((t : Tree) → F.tree folder.old ≡ Some t → F.steady folder.old → answer ≡ Answer.FileFault → ⊥)
+        × ((t : Tree) → IsWellFormed t → F.tree folder.old ≡ Some t → HasFiles t (F.tree folder.new)
+        × ((IsStop answer → ⊥) → F.tree folder.new ≡ Some t)) }
 
     // Else the program runs. On every answer there is one number of steps at which console, untaken input and files are
     // those of the direct run, which the report tells, and which the answer before the report speaks of, with its
@@ -67,7 +94,7 @@ pub fn front<I: Source, C: Sink, R: Sink, F: Folder>(
     ensures ran { (c : RunCase) → Asks words.now c (I.left input.old) (C.held console.old) (F.tree folder.old)
         → (answer : Answer) × (steps : ℕ)
         × Ran c answer steps (I.left input.new) (C.held console.new) (F.tree folder.new)
-        × IsSaid answer result × Reported result steps (R.held report.old) (R.held report.new)
+        × IsSaid answer result × Reported result (Some steps) (R.held report.old) (R.held report.new)
         × IsTimely c answer steps
         × RoseFor (answer ≡ Answer.ConsoleFault) (C.faults console.old) (C.faults console.new)
         × RoseFor (answer ≡ Answer.FileFault) (F.faults folder.old) (F.faults folder.new)
@@ -102,59 +129,99 @@ fn command<I: Source, C: Sink, F: Folder>(
 ) -> Ending
     ensures words { IsWordsRefusal result.answer → words_refusal words.now ≡ Some result.answer }
     ensures other_words { (a : Answer) → words_refusal words.now ≡ Some a
-        → (result.answer ≡ a) × (result.steps ≡ 0) × (input.new ≡ input.old) × (console.new ≡ console.old)
-        × (folder.new ≡ folder.old) }
-    ensures early { IsEarly result.answer → (input.new ≡ input.old) × (console.new ≡ console.old) × (result.steps ≡ 0) }
+        → (result.answer ≡ a) × (input.new ≡ input.old) × (console.new ≡ console.old)
+        × (result.steps ≡ first_count (command_of words.now)) }
+    ensures untouched { NamesNone (command_of words.now) → folder.new ≡ folder.old }
+    ensures early { IsEarly result.answer → (input.new ≡ input.old) × (console.new ≡ console.old)
+        × (result.steps ≡ first_count (command_of words.now)) }
     ensures refusal { (t : Tree) → IsWellFormed t → F.tree folder.old ≡ Some t → IsRefusal result.answer
         → plan_of words.now t ≡ refuse result.answer }
     ensures refused { (t : Tree) (a : Answer) → Plans words.now t (refuse a) (F.tree folder.old)
-        → ((result.answer ≡ a) ⊎ IsStop result.answer) × (result.steps ≡ 0) × HasFiles t (F.tree folder.new)
+        → ((result.answer ≡ a) ⊎ IsStop result.answer) × (result.steps ≡ first_count (command_of words.now))
         × (input.new ≡ input.old) × (console.new ≡ console.old) }
+    ensures listed { (listing : Listing) → AsksListing words.now listing (F.tree folder.old)
+        → Listed listing result.answer (C.held console.old) (C.held console.new)
+        × (C.steady console.old → ListingSuits listing (C.room console.old) → result.answer ≡ Answer.ConsoleFault → ⊥) }
+    ensures listing { IsListing (command_of words.now) → result.steps ≡ None }
+    ensures done { result.answer ≡ Answer.Done → IsListing (command_of words.now) }
     ensures ran { (c : RunCase) → Asks words.now c (I.left input.old) (C.held console.old) (F.tree folder.old)
-        → Ran c result.answer result.steps (I.left input.new) (C.held console.new) (F.tree folder.new) }
-    ensures suits { (c : RunCase) → Asks words.now c (I.left input.old) (C.held console.old) (F.tree folder.old)
-        → C.steady console.old
-        → HasRoomFor (capacity (C.held console.old) (C.room console.old)) (length (state_after (result.steps + 1) c).world.console)
-        → result.answer ≡ Answer.ConsoleFault → ⊥ }
-    ensures asked { (c : RunCase) → Asks words.now c (I.left input.old) (C.held console.old) (F.tree folder.old)
-        → result.answer ≡ Answer.ConsoleFault → step_puts (state_after result.steps c).machine ≢ [] }
+        → (steps : ℕ) × (result.steps ≡ Some steps)
+        × Ran c result.answer steps (I.left input.new) (C.held console.new) (F.tree folder.new)
+        × (result.answer ≡ Answer.ConsoleFault → step_puts (state_after steps c).machine ≢ [])
+        × (C.steady console.old → HasRoomFor (capacity (C.held console.old) (C.room console.old)) (length (state_after (steps + 1) c).world.console)
+        → result.answer ≡ Answer.ConsoleFault → ⊥) }
     ensures input { input.new ≡ input.old }
+    ensures files { (t : Tree) → F.tree folder.old ≡ Some t → HasFiles t (F.tree folder.new) }
     ensures tree { (t : Tree) → IsWellFormed t → F.tree folder.old ≡ Some t → (IsStop result.answer → ⊥)
         → F.tree folder.new ≡ Some t }
     ensures no_report { result.answer ≡ Answer.ReportFault → ⊥ }
     ensures opens { (t : Tree) → IsWellFormed t → F.tree folder.old ≡ Some t → StaysOrOpens t (F.tree folder.new) }
     ensures too_long { (n : ℕ) → result.answer ≡ Answer.ArgsTooLong n → AreTooLong words.now n }
-    ensures spent { (n : ℕ) → result.answer ≡ Answer.StepsSpent n → HasLimit words.now n × (result.steps ≡ n) }
+    ensures spent { (n : ℕ) → result.answer ≡ Answer.StepsSpent n → HasLimit words.now n × (result.steps ≡ Some n) }
     ensures console_cause { RoseFor (result.answer ≡ Answer.ConsoleFault) (C.faults console.old) (C.faults console.new) }
     ensures input_fault { result.answer ≡ Answer.InputFault → ⊥ }
     ensures file_cause { RoseFor (result.answer ≡ Answer.FileFault) (F.faults folder.old) (F.faults folder.new) }
     ensures steady { (t : Tree) → F.tree folder.old ≡ Some t → F.steady folder.old → result.answer ≡ Answer.FileFault
         → ⊥ }
 {
-    match make_plan(alloc, words, folder) {
-        Ok(Plan::Refuse(answer)) => Ending { answer, steps: 0 },
+    let asked = read_command(words);
+    match make_plan(alloc, words, asked, folder) {
+        Ok(Plan::Refuse(answer)) => Ending {
+            answer,
+            steps: first_count(asked),
+        },
+        Ok(Plan::Put(text)) => Ending {
+            answer: put_listing(&text, console),
+            steps: None,
+        },
         Ok(Plan::Run(image, args, limit)) => {
-            run_program(alloc, image, &args, limit, input, console, folder)
+            let end = run_program(alloc, image, &args, limit, input, console, folder);
+            Ending {
+                answer: end.answer,
+                steps: Some(end.steps),
+            }
         }
         Err(Stop::FileFault) => Ending {
             answer: Answer::FileFault,
-            steps: 0,
+            steps: first_count(asked),
         },
         Err(Stop::OutOfMemory) => Ending {
             answer: Answer::OutOfMemory,
-            steps: 0,
+            steps: first_count(asked),
         },
     }
 }
 
-// The report's last line. Where it can't be put, the report is as it was, and that is the answer.
+// Puts a listing's text on the console. Where it can't be put, the console is as it was.
+fn put_listing<C: Sink>(text: &Bytes, console: &mut C) -> Answer
+    ensures answers { (result ≡ Answer.Done) ⊎ (result ≡ Answer.ConsoleFault) }
+    ensures done { result ≡ Answer.Done → (held : List ℕ) → C.held console.old ≡ Some held
+        → C.held console.new ≡ Some (held ++ text.now) }
+    ensures kept { (result ≡ Answer.Done → ⊥) → (held : List ℕ) → C.held console.old ≡ Some held
+        → C.held console.new ≡ Some held }
+    ensures cause { RoseFor (result ≡ Answer.ConsoleFault) (C.faults console.old) (C.faults console.new) }
+    ensures steady { C.steady console.old → PutSuits (C.room console.old) (length text.now)
+        → result ≡ Answer.ConsoleFault → ⊥ }
+{
+    match console.put(text.as_slice()) {
+        Ok(()) => Answer::Done,
+        Err(_) => Answer::ConsoleFault,
+    }
+}
+
+// The report's last line, if the answer has one. Where it can't be put, the report is as it was, and that is the
+// answer.
 fn put_report<R: Sink>(ending: Ending, report: &mut R) -> Answer
     requires { ending.answer ≡ Answer.ReportFault → ⊥ }
     ensures said { IsSaid ending.answer result }
+    ensures done { ending.answer ≡ Answer.Done → (result ≡ Answer.Done) × (report.new ≡ report.old) }
     ensures reported { Reported result ending.steps (R.held report.old) (R.held report.new) }
     ensures cause { RoseFor (result ≡ Answer.ReportFault) (R.faults report.old) (R.faults report.new) }
     ensures steady { R.steady report.old → PutSuits (R.room report.old) 128 → result ≡ ending.answer }
 {
+    if let Answer::Done = ending.answer {
+        return Answer::Done;
+    }
     let line = line_of(ending.answer, ending.steps);
     match report.put(line.as_str().as_bytes()) {
         Ok(()) => ending.answer,

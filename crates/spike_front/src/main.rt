@@ -6,16 +6,23 @@
 //
 // - `words`, `other_words`, `other_words_untouched`: Words that are no command are refused first, exactly, with the
 //   kind and place of their first failure by the grammar of `specs/Words`, and then nothing but the report is called.
-// - `refusal`, `refused`, `refused_untouched`: The other refusals (no program, the file's fault, arguments too long)
-//   are exactly those of the plan that words and files determine (`specs/Plans`), in order. They yield only to a fault
-//   of the folder, to want of memory and to a report that fails. All files are as they were.
+// - `no_file_untouched`: Words that name no file call the folder not at all.
+// - `refusal`, `refused`, `refused_untouched`: The other refusals (no program, the file's fault, arguments too long, a
+//   fault of assembly text) are exactly those of the plan that words and files determine (`specs/Plans`), in order.
+//   They yield only to a fault of the folder, to want of memory and to a report that fails. All files are as they were.
 // - `early_untouched`: Whatever the objects tell: a refusal, a fault of the folder and want of memory come before a
 //   first step, and then input and console were not called.
-// - `too_long`, `spent`: ArgsTooLong(N) comes only where the main vars of the words' arguments have N bytes, above
-//   65,536; the number of StepsSpent is the limit of the words.
+// - `too_long`, `spent`, `done`: ArgsTooLong(N) comes only where the main vars of the words' arguments have N bytes,
+//   above 65,536; the number of StepsSpent is the limit of the words; Done comes only of a command that puts a
+//   listing, and then the report was not called.
 // - `opens`: Of a told tree all stays but that one of its files may be open once more.
 // - `reported`: A told report has grown by exactly the line of the answer with some number of steps: 0 for what comes
-//   before a first step, and the limit where that was spent. After ReportFault it is as it was.
+//   before a first step of a run, none of a command that runs nothing, and the limit where that was spent. After
+//   ReportFault it is as it was.
+// - `listed`: A listing is put whole, and then the answer is Done, or the console is as it was, and then the folder or
+//   the console failed or there was no memory. What is put lists what the words ask for (`specs/Listings`): print_asm's
+//   text of the kernel's items, or the words of bytes that hold what the assembly text means at 0. A steady console
+//   with room for it, and a steady folder, fail no listing.
 // - `ran`: On every answer of a run, the faults and OutOfMemory too, there is one number of steps at which console,
 //   untaken input and files are those of the direct run (`specs/Runs`), and which the report tells. No earlier state
 //   had ended or came to a step that is not built. Exited(s), StepsSpent(limit) and NotBuilt(3) come exactly where the
@@ -33,6 +40,7 @@ mod answer;
 mod file;
 mod front;
 mod host;
+mod listing;
 mod plan;
 mod report;
 mod run;

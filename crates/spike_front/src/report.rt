@@ -1,5 +1,5 @@
 // The report's last line. Its text stands on the stack, so that no answer is lost for want of memory.
-ghost use Rattle.std.specs.Prelude.{◌≡◌, ◌≤◌, ◌+◌, ◌++◌, codes, length};
+ghost use Rattle.std.specs.Prelude.{◌≡◌, ◌≤◌, ◌+◌, ◌++◌, None, codes, length};
 ghost use Rattle.std.specs.Fmt.{decimal};
 ghost use Rattle.arrayvec.specs.ArrayString.{array_string_len};
 ghost use Rattle.spike_front.specs.Report as spec;
@@ -40,10 +40,13 @@ fn numbered(words: &str, number: u64) -> Line
     line
 }
 
-fn counted(mut line: Line, steps: u64) -> Line
+fn counted(mut line: Line, steps: Option<u64>) -> Line
     requires { array_string_len line ≤ 60 }
     ensures { result.bytes ≡ spec.counted line.bytes steps }
 {
+    let Some(steps) = steps else {
+        return ended(line, "\n");
+    };
     line.push_str(" after ");
     push_number(&mut line, steps);
     line.push_str(" steps\n");
@@ -59,7 +62,7 @@ fn ended(mut line: Line, words: &str) -> Line
 }
 
 fn usage(kind: u8, place: u64) -> Line
-    ensures { result.bytes ≡ spec.line_of (Answer.Usage kind place) 0 }
+    ensures { result.bytes ≡ spec.line_of (Answer.Usage kind place) None }
 {
     let mut line = numbered("pkfe: usage ", u64::from(kind));
     line.push_str(" at ");
@@ -103,27 +106,37 @@ fn with_places(line: Line, fault: ElfFault) -> Line
 }
 
 fn bad_elf(fault: ElfFault) -> Line
-    ensures { result.bytes ≡ spec.line_of (Answer.BadElf fault) 0 }
+    ensures { result.bytes ≡ spec.line_of (Answer.BadElf fault) None }
 {
     let line = numbered("pkfe: bad elf ", u64::from(fault.number()));
     ended(with_places(line, fault), "\n")
 }
 
-/// The last line of the report, for an answer and the number of steps made before it.
-pub fn line_of(answer: Answer, steps: u64) -> Line
+fn bad_asm(text_line: u64, kind: u8) -> Line
+    ensures { result.bytes ≡ spec.line_of (Answer.BadAsm text_line kind) None }
+{
+    let mut line = numbered("pkfe: asm fault ", u64::from(kind));
+    line.push_str(" at line ");
+    push_number(&mut line, text_line);
+    ended(line, "\n")
+}
+
+/// The last line of the report, for an answer and the number of steps made before it, where steps are counted.
+pub fn line_of(answer: Answer, steps: Option<u64>) -> Line
     ensures { result.bytes ≡ spec.line_of answer steps }
 {
     match answer {
+        Answer::Done | Answer::ReportFault => Line::new(),
         Answer::Exited(status) => counted(numbered("pkfe: exited ", u64::from(status)), steps),
         Answer::Usage(kind, place) => usage(kind, place),
         Answer::NoProgram => text("pkfe: no program\n"),
         Answer::BadElf(fault) => bad_elf(fault),
         Answer::ArgsTooLong(bytes) => ended(numbered("pkfe: arguments need ", bytes), " bytes\n"),
+        Answer::BadAsm(text_line, kind) => bad_asm(text_line, kind),
         Answer::StepsSpent(_) => counted(text("pkfe: steps spent"), steps),
         Answer::FileFault => counted(text("pkfe: file fault"), steps),
         Answer::InputFault => counted(text("pkfe: input fault"), steps),
         Answer::ConsoleFault => counted(text("pkfe: console fault"), steps),
-        Answer::ReportFault => Line::new(),
         Answer::OutOfMemory => counted(text("pkfe: out of memory"), steps),
         Answer::NotBuilt(3) => counted(text("pkfe: not built 3"), steps),
         Answer::NotBuilt(kind) => ended(numbered("pkfe: not built ", u64::from(kind)), "\n"),

@@ -17,9 +17,9 @@ use folder_tree::{Folder, Path};
 use plain_machine::{Plain, PlainEnd, PlainFault};
 use std::alloc::Global;
 
-/// An answer, and how many steps were made before it.
+/// The answer of a run, and how many steps were made before it.
 #[derive(Clone, Copy)]
-pub struct Ending {
+pub struct RunEnd {
     pub answer: Answer,
     pub steps: u64,
 }
@@ -34,7 +34,7 @@ pub fn run_program<I: Source, C: Sink, F: Folder>(
     input: &mut I,
     console: &mut C,
     folder: &mut F,
-) -> Ending
+) -> RunEnd
     requires fit { IsFit image }
     requires short { main_vars_length args.now ≤ main_vars_limit }
     requires some { 0 < limit }
@@ -57,13 +57,13 @@ pub fn run_program<I: Source, C: Sink, F: Folder>(
     ensures input_fault { result.answer ≡ Answer.InputFault → ⊥ }
 {
     let Ok(mut plain) = Plain::start(alloc, image, args, Path::root()) else {
-        return Ending {
+        return RunEnd {
             answer: Answer::OutOfMemory,
             steps: 0,
         };
     };
     let end = plain.run(limit, folder, input, console);
-    Ending {
+    RunEnd {
         answer: answer_of(end, limit),
         steps: plain.steps(),
     }

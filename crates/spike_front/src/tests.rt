@@ -1,6 +1,8 @@
 // `front` over objects in memory: what it answers, puts on the console and reports.
 ghost use Rattle.std.specs.Prelude.{◌≡◌, ◌<◌, length};
 
+mod listings;
+mod programs;
 mod quiet_folder;
 
 use crate::answer::Answer;
@@ -10,142 +12,16 @@ use elf_loader::{ElfFault, read_elf};
 use fe_base::{ByteSink, ByteSource, Words};
 use folder_tree::{FilesFolder, Folder, FolderStop, Path, PathKind, read_path};
 use plain_machine::{Plain, PlainEnd};
+use programs::{
+    BEYOND, COUNTER, DIVIDES, END, FOREVER, FRONT, GROWS, HI, JUMPS_BETWEEN, NO_CALL, READS,
+    STORES_FAR, THREE_HUNDRED, program,
+};
 use quiet_folder::{Calls, QuietFolder};
 use std::alloc::{AllocError, Global};
 use std::fs;
 use std::process::Abort;
 use std::str::from_utf8;
 use std::test::Fail;
-
-/// The headers of a program file up to the size of its code, and those behind the two sizes.
-const FRONT: [u8; 96] = [
-    0x7f, 0x45, 0x4c, 0x46, 2, 1, 1, 0, 0, 0, 0, 0, 0, 0, 0, 0, //
-    2, 0, 0xf3, 0, 1, 0, 0, 0, 0, 0, 1, 0, 0, 0, 0, 0, //
-    0x40, 0, 0, 0, 0, 0, 0, 0, 0, 0, 0, 0, 0, 0, 0, 0, //
-    0, 0, 0, 0, 0x40, 0, 0x38, 0, 1, 0, 0, 0, 0, 0, 0, 0, //
-    1, 0, 0, 0, 7, 0, 0, 0, 0x78, 0, 0, 0, 0, 0, 0, 0, //
-    0, 0, 1, 0, 0, 0, 0, 0, 0, 0, 1, 0, 0, 0, 0, 0, //
-];
-
-const BEHIND: [u8; 8] = [0, 0x10, 0, 0, 0, 0, 0, 0];
-
-/// addi a7, x0, 93; ecall
-const END: [u32; 2] = [0x05d0_0893, 0x0000_0073];
-
-/// Writes `Hi` and a newline from behind its code, and ends with 0.
-const HI: [u32; 10] = [
-    0x0010_0513,
-    0x0000_0597,
-    0x0205_8593,
-    0x0030_0613,
-    0x0400_0893,
-    0x0000_0073,
-    0x0000_0513,
-    0x05d0_0893,
-    0x0000_0073,
-    0x000a_6948,
-];
-
-/// addi a0, x0, 300; addi a7, x0, 93; ecall
-const THREE_HUNDRED: [u32; 3] = [0x12c0_0513, 0x05d0_0893, 0x0000_0073];
-
-/// Writes nothing at the end of the user area, then nothing behind it, and ends with the number of
-/// the error of the second: addi a0, x0, 1; lui a1, 0x1010; addi a2, x0, 0; addi a7, x0, 64; ecall;
-/// addi a0, x0, 1; addi a1, a1, 1; ecall; sub a0, x0, a0; addi a7, x0, 93; ecall
-const BEYOND: [u32; 11] = [
-    0x0010_0513,
-    0x0101_05b7,
-    0x0000_0613,
-    0x0400_0893,
-    0x0000_0073,
-    0x0010_0513,
-    0x0015_8593,
-    0x0000_0073,
-    0x40a0_0533,
-    0x05d0_0893,
-    0x0000_0073,
-];
-
-/// addi t0, x0, 1; slli t0, t0, 31; sd x0, 0(t0)
-const STORES_FAR: [u32; 3] = [0x0010_0293, 0x01f2_9293, 0x0002_b023];
-
-/// csrrs t0, 0xc00, x0
-const COUNTER: [u32; 1] = [0xc000_22f3];
-
-/// jal x0, .+2
-const JUMPS_BETWEEN: [u32; 1] = [0x0020_006f];
-
-/// jal x0, .
-const FOREVER: [u32; 1] = [0x0000_006f];
-
-/// Writes the quotient of the least number by -1, the remainder of -1 by 0 and the upper half of -1
-/// times 2^64 - 1: addi t0, x0, -1; slli t1, t0, 63; div t2, t1, t0; rem t3, t0, x0; mulhsu t4, t0,
-/// t0; lui s0, 0x20; sd t2, 0(s0); sd t3, 8(s0); sd t4, 16(s0); addi a0, x0, 1; addi a1, s0, 0;
-/// addi a2, x0, 24; addi a7, x0, 64; ecall; addi a0, x0, 0; addi a7, x0, 93; ecall
-const DIVIDES: [u32; 17] = [
-    0xfff0_0293,
-    0x03f2_9313,
-    0x0253_43b3,
-    0x0202_ee33,
-    0x0252_aeb3,
-    0x0002_0437,
-    0x0074_3023,
-    0x01c4_3423,
-    0x01d4_3823,
-    0x0010_0513,
-    0x0004_0593,
-    0x0180_0613,
-    0x0400_0893,
-    0x0000_0073,
-    0x0000_0513,
-    0x05d0_0893,
-    0x0000_0073,
-];
-
-/// Grows its break by a page, and ends by exit_group with the number of pages that it grew: addi a0,
-/// x0, 0; addi a7, x0, 214; ecall; addi t0, a0, 0; lui a1, 1; add a0, a0, a1; ecall; sub a0, a0, t0;
-/// srli a0, a0, 12; addi a7, x0, 94; ecall
-const GROWS: [u32; 11] = [
-    0x0000_0513,
-    0x0d60_0893,
-    0x0000_0073,
-    0x0005_0293,
-    0x0000_15b7,
-    0x00b5_0533,
-    0x0000_0073,
-    0x4055_0533,
-    0x00c5_5513,
-    0x05e0_0893,
-    0x0000_0073,
-];
-
-/// Ends with the number of the error of a call that no table has: addi a7, x0, 1; ecall; sub a0, x0,
-/// a0; addi a7, x0, 93; ecall
-const NO_CALL: [u32; 5] = [
-    0x0010_0893,
-    0x0000_0073,
-    0x40a0_0533,
-    0x05d0_0893,
-    0x0000_0073,
-];
-
-/// addi a7, x0, 63; ecall
-const READS: [u32; 2] = [0x03f0_0893, 0x0000_0073];
-
-// The file of one segment with this code.
-fn program(alloc: Global, code: &[u32]) -> Result<Vec<u8>, AllocError>
-    requires { length code.now < 1000 }
-{
-    let size = 4 * code.len() as u64;
-    let mut file = Vec::from_slice(alloc, &FRONT)?;
-    file.extend_from_slice(&size.to_le_bytes())?;
-    file.extend_from_slice(&size.to_le_bytes())?;
-    file.extend_from_slice(&BEHIND)?;
-    for word in code {
-        file.extend_from_slice(&word.to_le_bytes())?;
-    }
-    Ok(file)
-}
 
 /// A command line over a folder with the file `p`, with the numbers of the calls that fail, and what
 /// must come of it.
@@ -461,7 +337,7 @@ fn words_are_not_built(rt: HostRuntime) -> Result<(), Fail> {
     let alloc = rt.alloc();
     let line = "pkfe: not built 1\n";
     refuses(&rt, alloc, &["run", "p"], Answer::NotBuilt(1), 77, line)?;
-    refuses(&rt, alloc, &["kernel", "x"], Answer::NotBuilt(1), 77, line)?;
+    refuses(&rt, alloc, &["demo", "3"], Answer::NotBuilt(1), 77, line)?;
     let folder = ["plain", "--folder", "d", "p"];
     refuses(&rt, alloc, &folder, Answer::NotBuilt(1), 77, line)?;
     let case = Case {
@@ -683,18 +559,35 @@ fn the_working_directory_is_read(rt: HostRuntime) -> Result<(), Fail> {
     Ok(())
 }
 
-// `plain p` over a folder that tells nothing, with a file of these bytes and this size, is answered so after so many reads
-// and one call of each other kind.
+#[test]
+fn words_of_listings_fail(rt: HostRuntime) -> Result<(), Fail> {
+    let alloc = rt.alloc();
+    fails(&rt, alloc, &["kernel", "x"], 10, 1, "pkfe: usage 10 at 1\n")?;
+    let ended = ["kernel", "--", "x"];
+    fails(&rt, alloc, &ended, 10, 2, "pkfe: usage 10 at 2\n")?;
+    fails(&rt, alloc, &["kernel", "-x"], 3, 1, "pkfe: usage 3 at 1\n")?;
+    fails(&rt, alloc, &["asm"], 9, 1, "pkfe: usage 9 at 1\n")?;
+    fails(&rt, alloc, &["asm", "--"], 9, 2, "pkfe: usage 9 at 2\n")?;
+    let many = ["asm", "p", "-x"];
+    fails(&rt, alloc, &many, 10, 2, "pkfe: usage 10 at 2\n")?;
+    let line = "pkfe: no program\n";
+    refuses(&rt, alloc, &["asm", "q"], Answer::NoProgram, 65, line)?;
+    Ok(())
+}
+
+// A command for `p` over a folder that tells nothing, with a file of these bytes and this size, is answered so after so
+// many reads and one call of each other kind.
 fn reads(
     rt: &impl Abort,
     alloc: Global,
+    command: &str,
     bytes: &[u8],
     size: u64,
     reads: u64,
     answer: Answer,
 ) -> Result<(), Fail> {
     let mut words = Words::new(alloc);
-    words.push("plain")?;
+    words.push(command)?;
     words.push("p")?;
     let mut input = ByteSource::new(alloc, b"", &[])?;
     let mut console = ByteSink::new(alloc, 100, &[])?;
@@ -726,17 +619,35 @@ fn files_are_read_in_pieces(rt: HostRuntime) -> Result<(), Fail> {
     let file = program(alloc, &END)?;
     let size = file.len() as u64;
     let (cut, _) = file.split_at(file.len().saturating_sub(1));
-    reads(&rt, alloc, &file, size, 1, Answer::Exited(0))?;
+    reads(&rt, alloc, "plain", &file, size, 1, Answer::Exited(0))?;
     // A read that ends early: what has come is the file, and nothing is filled in.
     let fault = Answer::BadElf(ElfFault::Segment(0));
-    reads(&rt, alloc, cut, size, 2, fault)?;
-    reads(&rt, alloc, b"", size, 1, Answer::BadElf(ElfFault::Short))?;
+    reads(&rt, alloc, "plain", cut, size, 2, fault)?;
+    reads(
+        &rt,
+        alloc,
+        "plain",
+        b"",
+        size,
+        1,
+        Answer::BadElf(ElfFault::Short),
+    )?;
     // A file above the limit is not read.
     let large = Answer::BadElf(ElfFault::TooLarge);
-    reads(&rt, alloc, &file, 67_108_865, 0, large)?;
+    reads(&rt, alloc, "plain", &file, 67_108_865, 0, large)?;
+    let large = Answer::BadAsm(0, 9);
+    reads(&rt, alloc, "asm", &file, 1_048_577, 0, large)?;
     let mut long = file;
     let behind: Vec<u8> = vec![in alloc; 0; 1_048_576]?;
     long.extend_from_slice(&behind)?;
-    reads(&rt, alloc, &long, long.len() as u64, 2, Answer::Exited(0))?;
+    reads(
+        &rt,
+        alloc,
+        "plain",
+        &long,
+        long.len() as u64,
+        2,
+        Answer::Exited(0),
+    )?;
     Ok(())
 }

@@ -17,6 +17,10 @@ pub enum Command {
     /// Run the program whose file the word at the index `file` names, for at most `limit` steps on the direct machine.
     /// Its arguments are that word and those behind it.
     Plain { limit: u64, file: usize },
+    /// Put the text of the kernel's items.
+    Kernel,
+    /// Put the words of the assembly text that the word at the index `file` names.
+    Asm { file: usize },
 }
 
 /// How words fail.
@@ -36,6 +40,8 @@ pub enum UsageKind {
     BadNumber,
     /// The file is missing.
     FileMissing,
+    /// There is a word too many.
+    WordTooMany,
 }
 
 impl UsageKind {
@@ -51,6 +57,7 @@ impl UsageKind {
             UsageKind::ValueMissing => 5,
             UsageKind::BadNumber => 6,
             UsageKind::FileMissing => 9,
+            UsageKind::WordTooMany => 10,
         }
     }
 }
@@ -67,7 +74,7 @@ pub enum WordFault {
 fn is_unbuilt_name(name: &str) -> bool
     ensures { result ≡ spec.is_unbuilt_name name.now }
 {
-    name == "run" || name == "kernel" || name == "asm" || name == "demo"
+    name == "run" || name == "demo"
 }
 
 fn is_option(word: &str) -> bool
@@ -157,6 +164,54 @@ fn plain_words(words: &Words) -> Result<Command, WordFault>
     plain_file(words, at, limit)
 }
 
+// Where the words behind the options begin, of a command that has none.
+fn behind_options(words: &Words) -> Result<usize, WordFault>
+    requires { 0 < length words.now }
+    ensures value { result ≡ spec.behind_options (drop 1 words.now) }
+    ensures within { IfOk result (λ place. place ≤ length words.now) }
+{
+    if words.len() < 2 {
+        return Ok(1);
+    }
+    let word = words.word(1);
+    if !is_option(word) {
+        return Ok(1);
+    }
+    if word == "--" {
+        return Ok(2);
+    }
+    Err(WordFault::Usage(UsageKind::UnknownOption, 1))
+}
+
+// `kernel` with the words behind it.
+fn kernel_words(words: &Words) -> Result<Command, WordFault>
+    requires { 0 < length words.now }
+    ensures value { result ≡ spec.kernel_words (length words.now) (spec.behind_options (drop 1 words.now)) }
+    ensures sound { IfOk result (IsSound (length words.now)) }
+{
+    let place = behind_options(words)?;
+    if place < words.len() {
+        return Err(WordFault::Usage(UsageKind::WordTooMany, place as u64));
+    }
+    Ok(Command::Kernel)
+}
+
+// `asm` with the words behind it.
+fn asm_words(words: &Words) -> Result<Command, WordFault>
+    requires { 0 < length words.now }
+    ensures value { result ≡ spec.asm_words (length words.now) (spec.behind_options (drop 1 words.now)) }
+    ensures sound { IfOk result (IsSound (length words.now)) }
+{
+    let place = behind_options(words)?;
+    if place >= words.len() {
+        return Err(WordFault::Usage(UsageKind::FileMissing, place as u64));
+    }
+    if place + 1 < words.len() {
+        return Err(WordFault::Usage(UsageKind::WordTooMany, place as u64 + 1));
+    }
+    Ok(Command::Asm { file: place })
+}
+
 /// The command that the words are, or their first failure from the left.
 pub fn read_command(words: &Words) -> Result<Command, WordFault>
     ensures value { result ≡ command_of words.now }
@@ -169,8 +224,24 @@ pub fn read_command(words: &Words) -> Result<Command, WordFault>
     if name == "plain" {
         return plain_words(words);
     }
+    if name == "kernel" {
+        return kernel_words(words);
+    }
+    if name == "asm" {
+        return asm_words(words);
+    }
     if is_unbuilt_name(name) {
         return Err(WordFault::NotBuilt);
     }
     Err(WordFault::Usage(UsageKind::UnknownCommand, 0))
+}
+
+/// What a command counts before its first step: a run its steps, the others nothing.
+pub fn first_count(asked: Result<Command, WordFault>) -> Option<u64>
+    ensures { result ≡ spec.first_count asked }
+{
+    match asked {
+        Ok(Command::Plain { .. }) => Some(0),
+        Ok(Command::Kernel | Command::Asm { .. }) | Err(_) => None,
+    }
 }

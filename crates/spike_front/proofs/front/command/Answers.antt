@@ -1,63 +1,194 @@
-use Rattle.std.proofs.Common.{◌≡◌, ◌≢◌, [], ◌+◌, length, refl, ap, sym, subst, ◌∙◌, inl, inr, Ok}
+use Rattle.std.proofs.Common.{◌≡◌, ◌≢◌, [], ◌+◌, length, refl, ap, sym, subst, ◌∙◌, inl, inr, Ok, Some}
 use Rattle.fe_base.specs.Outside.{capacity}
 use Rattle.plain_machine.specs.Direct.{Tells, HasRoomFor, step_puts}
-use Rattle.spike_front.specs.Plans.{shown}
+use Rattle.spike_front.specs.Plans.{HasLimit, IsListing, planned_command, refusal_of}
+use Rattle.spike_front.specs.FoundFiles.{HasFiles}
 use Rattle.spike_front.specs.Runs.{RunCase, state_after}
+use Rattle.spike_front.specs.Words.{first_count}
 use Rattle.spike_front.specs.declared.answer.Answer.TheVariants.{FileFault, OutOfMemory}
-use Rattle.spike_front.proofs.TreeFacts.{same_files}
 use Rattle.spike_front.proofs.Stages.{run_not_refusal}
-use Rattle.spike_front.proofs.Endings.{Ran-as, Ran-stopped, case_same, refuse_same}
+use Rattle.spike_front.proofs.PlanFacts.{fault_read, kernel_plan, sound_as, listing_counts, listing_not_run, put_is_listing, refused_too_long, refused_words, run_counts, run_has_limit, same_refusal, some_steps}
+use Rattle.spike_front.proofs.Listed.{listed_put, listed_stopped, plan_asked, text_lists}
+use Rattle.spike_front.proofs.Endings.{Ran-as, Ran-stopped, case_same}
 use Rattle.spike_front.proofs.front.command.Goals as goal
+
+-- where the words are refused, or their file
+
+pub returns-in-Ok-Refuse-clause-words : goal.returns-in-Ok-Refuse-clause-words
+returns-in-Ok-Refuse-clause-words g c = λ refused.
+    ap refusal_of (sym c.read_command-asked.ensures.value) ∙ refused_words c.read_command-asked.result c.args.words.now c.in-Ok-Refuse.answer (rw c.in-Ok-Refuse.field-0-is at c.in-Ok-Refuse.ensures.kind) refused
+
+pub returns-in-Ok-Refuse-clause-other_words : goal.returns-in-Ok-Refuse-clause-other_words
+returns-in-Ok-Refuse-clause-other_words g c = λ a known.
+    let fault = fault_read c.read_command-asked.result a (ap refusal_of c.read_command-asked.ensures.value ∙ known) in
+    let planned = c.make_plan.ensures.refused fault.0 fault.1 in
+    let is = c.in-Ok-Refuse.is in
+    let made = c.in-Ok-Refuse.field-0-is in
+    let gives = fault.2 in
+    (cc, refl, refl, c.first_count.ensures ∙ ap first_count c.read_command-asked.ensures.value)
 
 pub returns-in-Ok-Refuse-clause-refused : goal.returns-in-Ok-Refuse-clause-refused
 returns-in-Ok-Refuse-clause-refused g c = λ t a plans.
     let plan = c.in-Ok-Refuse.ensures.told t plans.formed plans.tree_told in
-    (inl (refuse_same _ _ (sym (ap shown c.in-Ok-Refuse.field-0-is) ∙ plan.0 ∙ plans.planned)), refl, same_files t _ plan.1, refl, refl)
+    let refused = rw c.in-Ok-Refuse.field-0-is at plan.0 in
+    (inl (same_refusal c.in-Ok-Refuse.answer a (sym refused ∙ plans.planned)), c.first_count.ensures ∙ ap first_count c.read_command-asked.ensures.value, refl, refl)
 
-pub returns-in-Err-FileFault-clause-refused : goal.returns-in-Err-FileFault-clause-refused
-returns-in-Err-FileFault-clause-refused g c = λ t a plans. (inr refl, refl, c.make_plan.ensures.files t plans.tree_told, refl, refl)
+pub returns-in-Ok-Refuse-clause-listed : goal.returns-in-Ok-Refuse-clause-listed
+returns-in-Ok-Refuse-clause-listed g c = λ listing asks.
+    let plan = plan_asked c.args.words.now listing (g.F.Folder.tree c.args.folder.now) c.in-Ok-Refuse.field-0
+    (λ kernel. kernel_plan c.read_command-asked.result c.args.words.now _ (c.read_command-asked.ensures.value ∙ kernel) c.in-Ok-Refuse.ensures.kind)
+    (λ t formed told. (c.in-Ok-Refuse.ensures.told t formed told).0) asks in
+    let refused = rw c.in-Ok-Refuse.field-0-is at plan in
+    absurd cc
 
-pub returns-in-Err-OutOfMemory-clause-refused : goal.returns-in-Err-OutOfMemory-clause-refused
-returns-in-Err-OutOfMemory-clause-refused g c = λ t a plans. (inr refl, refl, c.make_plan.ensures.files t plans.tree_told, refl, refl)
+pub returns-in-Ok-Refuse-clause-listing : goal.returns-in-Ok-Refuse-clause-listing
+returns-in-Ok-Refuse-clause-listing g c = λ listing.
+    c.first_count.ensures ∙ listing_counts c.read_command-asked.result (subst IsListing (sym c.read_command-asked.ensures.value) listing)
 
-pub returns-in-Err-FileFault-clause-ran : goal.returns-in-Err-FileFault-clause-ran
-returns-in-Err-FileFault-clause-ran g c = λ d asks.
-    Ran-stopped d FileFault (c.make_plan.ensures.limit d.world.tree _ _ _ asks.planned) refl (record { input_told = asks.told.input_told; console_told = asks.told.console_told; files_told = c.make_plan.ensures.files d.world.tree asks.told.tree_told })
+pub returns-in-Ok-Refuse-clause-ran : goal.returns-in-Ok-Refuse-clause-ran
+returns-in-Ok-Refuse-clause-ran g c = λ d asks.
+    let plan = c.in-Ok-Refuse.ensures.told d.world.tree asks.formed asks.told.tree_told in
+    let refused = rw c.in-Ok-Refuse.field-0-is at plan.0 in
+    let planned = asks.planned in
+    absurd cc
 
-pub returns-in-Err-OutOfMemory-clause-ran : goal.returns-in-Err-OutOfMemory-clause-ran
-returns-in-Err-OutOfMemory-clause-ran g c = λ d asks.
-    Ran-stopped d OutOfMemory (c.make_plan.ensures.limit d.world.tree _ _ _ asks.planned) refl (record { input_told = asks.told.input_told; console_told = asks.told.console_told; files_told = c.make_plan.ensures.files d.world.tree asks.told.tree_told })
+pub returns-in-Ok-Refuse-clause-too_long : goal.returns-in-Ok-Refuse-clause-too_long
+returns-in-Ok-Refuse-clause-too_long g c = λ n long.
+    refused_too_long c.read_command-asked.result c.args.words.now c.in-Ok-Refuse.answer n (sym c.read_command-asked.ensures.value) (rw c.in-Ok-Refuse.field-0-is at c.in-Ok-Refuse.ensures.kind) long
+
+-- where a text is put
+
+pub returns-in-Ok-Put-clause-listed : goal.returns-in-Ok-Put-clause-listed
+returns-in-Ok-Put-clause-listed g c = λ listing asks.
+    let plan = plan_asked c.args.words.now listing (g.F.Folder.tree c.args.folder.now) c.in-Ok-Put.field-0
+    (λ kernel. kernel_plan c.read_command-asked.result c.args.words.now _ (c.read_command-asked.ensures.value ∙ kernel) c.in-Ok-Put.ensures.kind)
+    (λ t formed told. (c.in-Ok-Put.ensures.told t formed told).0) asks in
+    let lists = text_lists listing c.in-Ok-Put.text (rw c.in-Ok-Put.field-0-is at plan) in (
+      listed_put listing c.in-Ok-Put.text c.put_listing.result lists c.put_listing.ensures.answers c.put_listing.ensures.done c.put_listing.ensures.kept,
+      λ steady room h. c.put_listing.ensures.steady steady (room c.in-Ok-Put.text lists) h,
+    )
+
+pub returns-in-Ok-Put-clause-done : goal.returns-in-Ok-Put-clause-done
+returns-in-Ok-Put-clause-done g c = λ done.
+    subst IsListing c.read_command-asked.ensures.value (put_is_listing c.read_command-asked.result c.args.words.now c.in-Ok-Put.text (rw c.in-Ok-Put.field-0-is at c.in-Ok-Put.ensures.kind))
+
+pub returns-in-Ok-Put-clause-ran : goal.returns-in-Ok-Put-clause-ran
+returns-in-Ok-Put-clause-ran g c = λ d asks.
+    let plan = c.in-Ok-Put.ensures.told d.world.tree asks.formed asks.told.tree_told in
+    let made = rw c.in-Ok-Put.field-0-is at plan.0 in
+    let here = made.1 in
+    let planned = asks.planned in
+    absurd cc
+
+pub returns-in-Ok-Put-clause-refused : goal.returns-in-Ok-Put-clause-refused
+returns-in-Ok-Put-clause-refused g c = λ t a plans.
+    let plan = c.in-Ok-Put.ensures.told t plans.formed plans.tree_told in
+    let made = rw c.in-Ok-Put.field-0-is at plan.0 in
+    let here = made.1 in
+    let planned = plans.planned in
+    absurd cc
+
+-- where a program runs
+
+pub returns-in-Ok-Run-clause-words : goal.returns-in-Ok-Run-clause-words
+returns-in-Ok-Run-clause-words g c = λ refused. absurd (run_not_refusal c.run_program-end.result.answer c.run_program-end.ensures.answers (inl refused))
+
+pub returns-in-Ok-Run-clause-other_words : goal.returns-in-Ok-Run-clause-other_words
+returns-in-Ok-Run-clause-other_words g c = λ a known.
+    let fault = fault_read c.read_command-asked.result a (ap refusal_of c.read_command-asked.ensures.value ∙ known) in
+    let planned = c.make_plan.ensures.refused fault.0 fault.1 in
+    let is = c.in-Ok-Run.is in
+    let made = c.in-Ok-Run.field-0-is in
+    absurd cc
+
+pub returns-in-Ok-Run-clause-refusal : goal.returns-in-Ok-Run-clause-refusal
+returns-in-Ok-Run-clause-refusal g c = λ t formed told refused. absurd (run_not_refusal c.run_program-end.result.answer c.run_program-end.ensures.answers refused)
+
+pub returns-in-Ok-Run-clause-refused : goal.returns-in-Ok-Run-clause-refused
+returns-in-Ok-Run-clause-refused g c = λ t a plans.
+    let plan = c.in-Ok-Run.ensures.told t plans.formed plans.tree_told in
+    let made = rw c.in-Ok-Run.field-0-is at plan.0 in
+    let planned = plans.planned in
+    absurd cc
+
+pub returns-in-Ok-Run-clause-listed : goal.returns-in-Ok-Run-clause-listed
+returns-in-Ok-Run-clause-listed g c = λ listing asks.
+    let plan = plan_asked c.args.words.now listing (g.F.Folder.tree c.args.folder.now) c.in-Ok-Run.field-0
+    (λ kernel. kernel_plan c.read_command-asked.result c.args.words.now _ (c.read_command-asked.ensures.value ∙ kernel) c.in-Ok-Run.ensures.kind)
+    (λ t formed told. (c.in-Ok-Run.ensures.told t formed told).0) asks in
+    let made = rw c.in-Ok-Run.field-0-is at plan in
+    absurd cc
+
+pub returns-in-Ok-Run-clause-listing : goal.returns-in-Ok-Run-clause-listing
+returns-in-Ok-Run-clause-listing g c = λ listing.
+    absurd (listing_not_run c.read_command-asked.result c.args.words.now c.in-Ok-Run.image c.in-Ok-Run.args c.in-Ok-Run.limit (subst IsListing (sym c.read_command-asked.ensures.value) listing) (rw c.in-Ok-Run.field-0-is at c.in-Ok-Run.ensures.kind))
 
 pub returns-in-Ok-Run-clause-ran : goal.returns-in-Ok-Run-clause-ran
 returns-in-Ok-Run-clause-ran g c = λ d asks.
     let plan = c.in-Ok-Run.ensures.told d.world.tree asks.formed asks.told.tree_told in
     let read : Tells d.world (g.I.Source.left c.args.input.now) (g.C.Sink.held c.args.console.now) (g.F.Folder.tree c.make_plan.new.folder) =
     record { input_told = asks.told.input_told; console_told = asks.told.console_told; tree_told = plan.1 } in
-    let same = case_same d c.in-Ok-Run.image c.in-Ok-Run.args c.in-Ok-Run.limit (sym (ap shown c.in-Ok-Run.field-0-is) ∙ plan.0 ∙ asks.planned) in
-    Ran-as _ d c.run_program.result.answer c.run_program.result.steps same (c.run_program.ensures.ran d.world read)
+    let made = rw c.in-Ok-Run.field-0-is at plan.0 in
+    let same = case_same d c.in-Ok-Run.image c.in-Ok-Run.args c.in-Ok-Run.limit (sym made ∙ asks.planned) in
+    let steps = c.run_program-end.result.steps in
+    let room = λ (e : RunCase). HasRoomFor (capacity (g.C.Sink.held c.args.console.now) (g.C.Sink.room c.args.console.now)) (length (state_after (steps + 1) e).world.console) in (
+      steps,
+      refl,
+      Ran-as _ d c.run_program-end.result.answer steps same (c.run_program-end.ensures.ran d.world read),
+      λ h. subst (λ (e : RunCase). step_puts (state_after steps e).machine ≢ []) same (c.run_program-end.ensures.asked d.world read h),
+      λ steady there h. c.run_program-end.ensures.suits d.world read steady (subst room (sym same) there) h,
+    )
 
-pub returns-in-Ok-Run-clause-suits : goal.returns-in-Ok-Run-clause-suits
-returns-in-Ok-Run-clause-suits g c = λ d asks steady room h.
-    let plan = c.in-Ok-Run.ensures.told d.world.tree asks.formed asks.told.tree_told in
-    let read : Tells d.world (g.I.Source.left c.args.input.now) (g.C.Sink.held c.args.console.now) (g.F.Folder.tree c.make_plan.new.folder) =
-    record { input_told = asks.told.input_told; console_told = asks.told.console_told; tree_told = plan.1 } in
-    let same = case_same d c.in-Ok-Run.image c.in-Ok-Run.args c.in-Ok-Run.limit (sym (ap shown c.in-Ok-Run.field-0-is) ∙ plan.0 ∙ asks.planned) in
-    let there = subst (λ (e : RunCase). HasRoomFor (capacity (g.C.Sink.held c.args.console.now) (g.C.Sink.room c.args.console.now)) (length (state_after (c.run_program.result.steps + 1) e).world.console)) (sym same) room in
-    c.run_program.ensures.suits d.world read steady there h
+pub returns-in-Ok-Run-clause-spent : goal.returns-in-Ok-Run-clause-spent
+returns-in-Ok-Run-clause-spent g c = λ n h.
+    let both = c.run_program-end.ensures.spent n h in
+    let limit = run_has_limit c.read_command-asked.result c.args.words.now c.in-Ok-Run.image c.in-Ok-Run.args c.in-Ok-Run.limit (sym c.read_command-asked.ensures.value) (rw c.in-Ok-Run.field-0-is at c.in-Ok-Run.ensures.kind) in
+    (subst (HasLimit c.args.words.now) (sym both.0) limit, ap Some both.1)
 
-pub returns-in-Ok-Run-clause-asked : goal.returns-in-Ok-Run-clause-asked
-returns-in-Ok-Run-clause-asked g c = λ d asks h.
-    let plan = c.in-Ok-Run.ensures.told d.world.tree asks.formed asks.told.tree_told in
-    let read : Tells d.world (g.I.Source.left c.args.input.now) (g.C.Sink.held c.args.console.now) (g.F.Folder.tree c.make_plan.new.folder) =
-    record { input_told = asks.told.input_told; console_told = asks.told.console_told; tree_told = plan.1 } in
-    let same = case_same d c.in-Ok-Run.image c.in-Ok-Run.args c.in-Ok-Run.limit (sym (ap shown c.in-Ok-Run.field-0-is) ∙ plan.0 ∙ asks.planned) in
-    subst (λ (e : RunCase). step_puts (state_after c.run_program.result.steps e).machine ≢ []) same (c.run_program.ensures.asked d.world read h)
+pub returns-in-Ok-Run-clause-files : goal.returns-in-Ok-Run-clause-files
+returns-in-Ok-Run-clause-files g c = λ t told.
+    subst (HasFiles t) (sym (ap (λ f. g.F.Folder.tree f) c.run_program-end.ensures.folder)) (c.make_plan.ensures.files t told)
 
-pub returns-in-Ok-Refuse-clause-words : goal.returns-in-Ok-Refuse-clause-words
-returns-in-Ok-Refuse-clause-words g c = λ refused. c.make_plan.ensures.command c.in-Ok-Refuse.answer (c.in-Ok-Refuse.is ∙ ap Ok c.in-Ok-Refuse.field-0-is) refused
+-- where the work stops before
 
-pub returns-in-Ok-Run-clause-words : goal.returns-in-Ok-Run-clause-words
-returns-in-Ok-Run-clause-words g c = λ refused. absurd (run_not_refusal c.run_program.result.answer c.run_program.ensures.answers (inl refused))
+pub returns-in-Err-FileFault-clause-refused : goal.returns-in-Err-FileFault-clause-refused
+returns-in-Err-FileFault-clause-refused g c = λ t a plans. (inr refl, c.first_count-in-Err-FileFault.ensures ∙ ap first_count c.read_command-asked.ensures.value, refl, refl)
 
-pub returns-in-Ok-Run-clause-refusal : goal.returns-in-Ok-Run-clause-refusal
-returns-in-Ok-Run-clause-refusal g c = λ t formed told refused. absurd (run_not_refusal c.run_program.result.answer c.run_program.ensures.answers refused)
+pub returns-in-Err-OutOfMemory-clause-refused : goal.returns-in-Err-OutOfMemory-clause-refused
+returns-in-Err-OutOfMemory-clause-refused g c = λ t a plans. (inr refl, c.first_count-in-Err-OutOfMemory.ensures ∙ ap first_count c.read_command-asked.ensures.value, refl, refl)
+
+pub returns-in-Err-FileFault-clause-listed : goal.returns-in-Err-FileFault-clause-listed
+returns-in-Err-FileFault-clause-listed g c = λ listing asks. (listed_stopped listing FileFault _ refl, λ steady room h. cc)
+
+pub returns-in-Err-OutOfMemory-clause-listed : goal.returns-in-Err-OutOfMemory-clause-listed
+returns-in-Err-OutOfMemory-clause-listed g c = λ listing asks. (listed_stopped listing OutOfMemory _ refl, λ steady room h. cc)
+
+pub returns-in-Err-FileFault-clause-listing : goal.returns-in-Err-FileFault-clause-listing
+returns-in-Err-FileFault-clause-listing g c = λ listing.
+    c.first_count-in-Err-FileFault.ensures ∙ listing_counts c.read_command-asked.result (subst IsListing (sym c.read_command-asked.ensures.value) listing)
+
+pub returns-in-Err-OutOfMemory-clause-listing : goal.returns-in-Err-OutOfMemory-clause-listing
+returns-in-Err-OutOfMemory-clause-listing g c = λ listing.
+    c.first_count-in-Err-OutOfMemory.ensures ∙ listing_counts c.read_command-asked.result (subst IsListing (sym c.read_command-asked.ensures.value) listing)
+
+pub returns-in-Err-FileFault-clause-ran : goal.returns-in-Err-FileFault-clause-ran
+returns-in-Err-FileFault-clause-ran g c = λ d asks.
+    let planned = ap (λ r. planned_command r c.args.words.now d.world.tree) c.read_command-asked.ensures.value ∙ asks.planned in
+    let some = some_steps c.read_command-asked.result _ d.limit c.args.words.now d.args d.world.tree d.image (sound_as c.read_command-asked.result _ c.read_command-asked.ensures.sound) planned in (
+      0,
+      c.first_count-in-Err-FileFault.ensures ∙ run_counts c.read_command-asked.result c.args.words.now d.world.tree d.image d.args d.limit planned,
+      Ran-stopped d FileFault some refl (record { input_told = asks.told.input_told; console_told = asks.told.console_told; files_told = c.make_plan.ensures.files d.world.tree asks.told.tree_told }),
+      λ h. cc,
+      λ steady there h. cc,
+    )
+
+pub returns-in-Err-OutOfMemory-clause-ran : goal.returns-in-Err-OutOfMemory-clause-ran
+returns-in-Err-OutOfMemory-clause-ran g c = λ d asks.
+    let planned = ap (λ r. planned_command r c.args.words.now d.world.tree) c.read_command-asked.ensures.value ∙ asks.planned in
+    let some = some_steps c.read_command-asked.result _ d.limit c.args.words.now d.args d.world.tree d.image (sound_as c.read_command-asked.result _ c.read_command-asked.ensures.sound) planned in (
+      0,
+      c.first_count-in-Err-OutOfMemory.ensures ∙ run_counts c.read_command-asked.result c.args.words.now d.world.tree d.image d.args d.limit planned,
+      Ran-stopped d OutOfMemory some refl (record { input_told = asks.told.input_told; console_told = asks.told.console_told; files_told = c.make_plan.ensures.files d.world.tree asks.told.tree_told }),
+      λ h. cc,
+      λ steady there h. cc,
+    )

@@ -1,5 +1,9 @@
-use Rattle.spike_front.specs.declared.answer.Answer.TheVariants.{ConsoleFault, FileFault, StepsSpent}
+use Rattle.std.proofs.Common.{None, Some}
+use Rattle.spike_front.specs.Plans.{words_refusal}
+use Rattle.spike_front.specs.Words.{command_of, first_count}
+use Rattle.spike_front.specs.declared.answer.Answer.TheVariants.{ConsoleFault, Done, FileFault, StepsSpent}
 use Rattle.spike_front.proofs.Stages.{early_said, refusal_said, reported_at, rose_said, said_as, said_of, words_said}
+use Rattle.spike_front.proofs.PlanFacts.{asked_is_listing, refused_names_none, run_counts, some_is, steps_early}
 use Rattle.spike_front.proofs.front.front.Goals as goal
 
 pub returns-clause-words : goal.returns-clause-words
@@ -8,7 +12,13 @@ returns-clause-words g c = λ refused. words_said _ _ _ c.put_report.ensures.sai
 pub returns-clause-other_words : goal.returns-clause-other_words
 returns-clause-other_words g c = λ a known.
     let told = c.command-ending.ensures.other_words a known in
-    (said_as a _ _ told.0 c.put_report.ensures.said, reported_at c.put_report.result c.command-ending.result.steps 0 _ _ told.1 c.put_report.ensures.reported)
+    (said_as a _ _ told.0 c.put_report.ensures.said, reported_at c.put_report.result c.command-ending.result.steps (first_count (command_of c.args.words.now)) _ _ told.3 c.put_report.ensures.reported)
+
+pub returns-clause-other_words_untouched : goal.returns-clause-other_words_untouched
+returns-clause-other_words_untouched g c = λ some.
+    let answer = some_is (words_refusal c.args.words.now) some in
+    let told = c.command-ending.ensures.other_words answer.0 answer.1 in
+    (told.1, told.2, c.command-ending.ensures.untouched (refused_names_none (command_of c.args.words.now) some))
 
 pub returns-clause-refusal : goal.returns-clause-refusal
 returns-clause-refusal g c = λ t formed told refused.
@@ -20,7 +30,7 @@ returns-clause-refused g c = λ t a plans.
       c.command-ending.result.answer,
       known.0,
       c.put_report.ensures.said,
-      reported_at c.put_report.result c.command-ending.result.steps 0 _ _ known.1 c.put_report.ensures.reported,
+      reported_at c.put_report.result c.command-ending.result.steps (first_count (command_of c.args.words.now)) _ _ known.1 c.put_report.ensures.reported,
       c.command-ending.ensures.file_cause,
       λ steady h. c.command-ending.ensures.steady t plans.tree_told steady h,
       λ going. c.command-ending.ensures.tree t plans.formed plans.tree_told going,
@@ -29,7 +39,7 @@ returns-clause-refused g c = λ t a plans.
 pub returns-clause-refused_untouched : goal.returns-clause-refused_untouched
 returns-clause-refused_untouched g c = λ t a plans.
     let known = c.command-ending.ensures.refused t a plans in
-    (known.3, known.4, known.2)
+    (known.2, known.3, c.command-ending.ensures.files t plans.tree_told)
 
 pub returns-clause-early_untouched : goal.returns-clause-early_untouched
 returns-clause-early_untouched g c = λ early.
@@ -41,31 +51,51 @@ returns-clause-too_long g c = λ n h. said_of _ _ _ (λ no. cc) c.put_report.ens
 pub returns-clause-spent : goal.returns-clause-spent
 returns-clause-spent g c = λ n h. said_of _ _ _ (λ no. cc) c.put_report.ensures.said h (λ is. (c.command-ending.ensures.spent n is).0)
 
+pub returns-clause-done : goal.returns-clause-done
+returns-clause-done g c = λ h. said_of _ _ Done (λ no. cc) c.put_report.ensures.said h (λ is. (c.command-ending.ensures.done is, (c.put_report.ensures.done is).1))
+
 pub returns-clause-reported : goal.returns-clause-reported
 returns-clause-reported g c = (
   c.command-ending.result.steps,
   c.put_report.ensures.reported,
   λ early. early_said _ _ c.put_report.ensures.said early (λ is. (c.command-ending.ensures.early is).2),
+  c.command-ending.ensures.listing,
   λ n h. said_of _ _ _ (λ no. cc) c.put_report.ensures.said h (λ is. (c.command-ending.ensures.spent n is).1),
 )
+
+pub returns-clause-listed : goal.returns-clause-listed
+returns-clause-listed g c = λ listing asks.
+    let known = c.command-ending.ensures in
+    let left = known.listed listing asks in (
+      c.command-ending.result.answer,
+      left.0,
+      c.put_report.ensures.said,
+      reported_at c.put_report.result c.command-ending.result.steps None _ _ (known.listing (asked_is_listing c.args.words.now listing _ asks)) c.put_report.ensures.reported,
+      known.console_cause,
+      known.file_cause,
+      left.1,
+      λ t told steady h. known.steady t told steady h,
+      λ t formed told. (known.files t told, λ going. known.tree t formed told going),
+    )
 
 pub returns-clause-ran : goal.returns-clause-ran
 returns-clause-ran g c = λ d asks.
     let ending = c.command-ending.result in
-    let known = c.command-ending.ensures in (
+    let known = c.command-ending.ensures in
+    let run = known.ran d asks in (
       ending.answer,
-      ending.steps,
-      known.ran d asks,
+      run.0,
+      run.2,
       c.put_report.ensures.said,
-      c.put_report.ensures.reported,
+      reported_at c.put_report.result ending.steps (Some run.0) _ _ run.1 c.put_report.ensures.reported,
       record {
-        console_asked = known.asked d asks;
-        early = λ h. (known.early h).2;
+        console_asked = run.3;
+        early = λ h. steps_early ending.steps run.0 _ run.1 (known.early h).2 (run_counts (command_of c.args.words.now) c.args.words.now d.world.tree d.image d.args d.limit asks.planned);
         no_input_fault = known.input_fault;
       },
       known.console_cause,
       known.file_cause,
-      λ steady room h. known.suits d asks steady room h,
+      run.4,
       λ steady h. known.steady d.world.tree asks.told.tree_told steady h,
       λ going. known.tree d.world.tree asks.formed asks.told.tree_told going,
     )

@@ -1,0 +1,3 @@
+start:
+    la a0, start
+    beq x0, x0, start

@@ -1,0 +1,170 @@
+-- What a plan that was made says of the words' command.
+use Rattle.std.proofs.Common.{◌≡◌, ◌∙◌, ◌<◌, ◌≤◌, ◌⊎◌, ◌++◌, inl, inr, ℕ, Bool, true, false, nat_le, if◌then◌else◌, List, [], drop, length, Option, Some, None, IsSome, IfOk, Result, Ok, Err, refl, ap, sym, subst, arith}
+use Rattle.fe_base.specs.Limits.{assembly_file_limit, main_vars_limit}
+use Rattle.fe_base.specs.WordLists.{main_vars_length}
+use Rattle.folder_tree.specs.Tree.{Tree}
+use Rattle.elf_loader.specs.ElfFile.{IsFit, fault_of, image_of}
+use Rattle.elf_loader.specs.declared.fault.ElfFault.{ElfFault}
+use Rattle.elf_loader.specs.declared.image.Image.{Image}
+use Rattle.asm_items.specs.ItemMeaning.{Part, assembled}
+use Rattle.asm_items.specs.declared.fault.AsmFault.{AsmFault}
+use Rattle.asm_items.specs.declared.fault.AsmFault.TheVariants.{UnknownLabel, LabelTwice, OutOfReach, OutOfMemory as NoMemory}
+use Rattle.asm_text.specs.Texts.{Found, text_items}
+use Rattle.spike_front.specs.Answers.{stage_of, words_refused, file_refused, IsRefusal, IsWordsRefusal}
+use Rattle.spike_front.specs.Listings.{Listing, Lists, kernel_listing}
+use Rattle.spike_front.specs.Plans.{AsksListing, Planned, refuse, put, run, planned_args, planned_image, planned_file, planned_run, planned_items, planned_text, planned_source, planned_command, named_file, answer_of_fault, refusal_of, words_refusal, AreTooLong, HasLimit, IsListing, IsPlan, IsPlanFor, NamesNone}
+use Rattle.spike_front.specs.Words.{IsSound, command_of, first_count}
+use Rattle.spike_front.specs.declared.plan.Plan.{Plan}
+use Rattle.spike_front.specs.declared.plan.Plan.TheVariants.{Refuse, Put, Run}
+use Rattle.spike_front.specs.declared.words.Command.{Command}
+use Rattle.spike_front.specs.declared.words.Command.TheVariants.{Plain, Kernel, Asm}
+use Rattle.spike_front.specs.declared.words.WordFault.{WordFault}
+use Rattle.spike_front.specs.declared.words.WordFault.TheVariants.{Usage as WordUsage, NotBuilt as WordNotBuilt}
+use Rattle.spike_front.specs.declared.answer.Answer.{Answer}
+use Rattle.spike_front.specs.declared.answer.Answer.TheVariants.{ArgsTooLong, BadAsm, BadElf, NoProgram}
+use Rattle.spike_front.proofs.Stages.{words_refusal_of}
+
+-- assembly text is never run
+choice_not_run : (b : Bool) (p : Planned) (answer : Answer) (i : Image) (a : List (List ℕ)) (n : ℕ) → (p ≡ run i a n → ⊥) → (if b then p else refuse answer) ≡ run i a n → ⊥
+choice_not_run true p answer i a n never e = never e
+choice_not_run false p answer i a n never e = cc
+
+items_not_run : (lines : List ℕ) (meaning : Result (List Part) AsmFault) (i : Image) (a : List (List ℕ)) (n : ℕ) → planned_items lines meaning ≡ run i a n → ⊥
+items_not_run lines (Ok parts) i a n e = cc
+items_not_run lines (Err (UnknownLabel item)) i a n e = cc
+items_not_run lines (Err (LabelTwice item)) i a n e = cc
+items_not_run lines (Err (OutOfReach item)) i a n e = cc
+items_not_run lines (Err NoMemory) i a n e = cc
+
+text_not_run : (found : Found) (i : Image) (a : List (List ℕ)) (n : ℕ) → planned_text found ≡ run i a n → ⊥
+text_not_run (Ok found) i a n e = items_not_run found.1 (assembled 0 found.0) i a n e
+text_not_run (Err fault) i a n e = cc
+
+source_not_run : (file : Option (List ℕ)) (i : Image) (a : List (List ℕ)) (n : ℕ) → planned_source file ≡ run i a n → ⊥
+source_not_run None i a n e = cc
+source_not_run (Some bytes) i a n e = choice_not_run (nat_le (length bytes) assembly_file_limit) (planned_text (text_items bytes)) (BadAsm 0 9) i a n (λ is. text_not_run (text_items bytes) i a n is) e
+
+-- a run that is planned counts its steps
+pub run_counts : (asked : Result Command WordFault) (words : List (List ℕ)) (t : Tree) (i : Image) (a : List (List ℕ)) (n : ℕ) → planned_command asked words t ≡ run i a n → first_count asked ≡ Some 0
+run_counts (Ok (Plain limit file)) words t i a n e = refl
+run_counts (Ok Kernel) words t i a n e = cc
+run_counts (Ok (Asm file)) words t i a n e = absurd (source_not_run (named_file file words t) i a n e)
+run_counts (Err fault) words t i a n e = cc
+
+args_limit : (b : Bool) (image i : Image) (args a : List (List ℕ)) (limit n : ℕ) (answer : Answer) → (if b then run image args limit else refuse answer) ≡ run i a n → n ≡ limit
+args_limit true image i args a limit n answer e = cc
+args_limit false image i args a limit n answer e = cc
+
+image_limit : (limit n : ℕ) (args a : List (List ℕ)) (bytes : List ℕ) (fault : Option ElfFault) (i : Image) → planned_image limit args bytes fault ≡ run i a n → n ≡ limit
+image_limit limit n args a bytes None i e = args_limit (nat_le (main_vars_length args) main_vars_limit) (image_of bytes) i args a limit n (ArgsTooLong (main_vars_length args)) e
+image_limit limit n args a bytes (Some fault) i e = cc
+
+file_limit : (limit n : ℕ) (args a : List (List ℕ)) (file : Option (List ℕ)) (i : Image) → planned_file limit args file ≡ run i a n → n ≡ limit
+file_limit limit n args a None i e = cc
+file_limit limit n args a (Some bytes) i e = image_limit limit n args a bytes (fault_of bytes) i e
+
+-- and may make some
+pub some_steps : (asked : Result Command WordFault) (count n : ℕ) (words a : List (List ℕ)) (t : Tree) (i : Image) → ((command : Command) → asked ≡ Ok command → IsSound count command) → planned_command asked words t ≡ run i a n → 0 < n
+some_steps (Ok (Plain limit file)) count n words a t i sound e = let known = sound (Plain limit file) refl in omega (arith, file_limit limit n (drop file words) a (named_file file words t) i e, known.0)
+some_steps (Ok Kernel) count n words a t i sound e = cc
+some_steps (Ok (Asm file)) count n words a t i sound e = absurd (source_not_run (named_file file words t) i a n e)
+some_steps (Err fault) count n words a t i sound e = cc
+
+-- a listing counts nothing
+pub listing_counts : (asked : Result Command WordFault) → IsListing asked → first_count asked ≡ None
+listing_counts (Ok (Plain limit file)) listing = absurd listing
+listing_counts (Ok Kernel) listing = refl
+listing_counts (Ok (Asm file)) listing = refl
+listing_counts (Err fault) listing = absurd listing
+
+-- and is never run
+pub listing_not_run : (asked : Result Command WordFault) (words : List (List ℕ)) (i : Image) (a : List (List ℕ)) (n : ℕ) → IsListing asked → IsPlanFor asked words (Run i a n) → ⊥
+listing_not_run (Ok (Plain limit file)) words i a n listing kind = listing
+listing_not_run (Ok Kernel) words i a n listing kind = cc
+listing_not_run (Ok (Asm file)) words i a n listing kind = kind
+listing_not_run (Err fault) words i a n listing kind = listing
+
+-- a text is put for a listing alone
+pub put_is_listing : (asked : Result Command WordFault) (words : List (List ℕ)) (text : List ℕ) → IsPlanFor asked words (Put text) → IsListing asked
+put_is_listing (Ok (Plain limit file)) words text kind = kind
+put_is_listing (Ok Kernel) words text kind = tt
+put_is_listing (Ok (Asm file)) words text kind = tt
+put_is_listing (Err fault) words text kind = cc
+
+-- a refusal of words is that of what was read of them
+pub refused_words : (asked : Result Command WordFault) (words : List (List ℕ)) (a : Answer) → IsPlanFor asked words (Refuse a) → IsWordsRefusal a → refusal_of asked ≡ Some a
+refused_words (Ok (Plain limit file)) words a kind refused = let known = kind.0 in cc
+refused_words (Ok Kernel) words a kind refused = cc
+refused_words (Ok (Asm file)) words a kind refused = let known = kind.0 in cc
+refused_words (Err fault) words a kind refused = let same : a ≡ answer_of_fault fault = cc in ap Some (sym same)
+
+pub refused_too_long : (asked : Result Command WordFault) (words : List (List ℕ)) (a : Answer) (n : ℕ) → command_of words ≡ asked → IsPlanFor asked words (Refuse a) → a ≡ ArgsTooLong n → AreTooLong words n
+refused_too_long (Ok (Plain limit file)) words a n read kind long = let known = kind.1 n long in (limit, file, read, known.0, known.1)
+refused_too_long (Ok Kernel) words a n read kind long = cc
+refused_too_long (Ok (Asm file)) words a n read kind long = absurd (kind.1 n long)
+refused_too_long (Err (WordUsage kind place)) words a n read plan long = let same : a ≡ answer_of_fault (WordUsage kind place) = cc in cc
+refused_too_long (Err WordNotBuilt) words a n read plan long = let same : a ≡ answer_of_fault WordNotBuilt = cc in cc
+
+-- words that are no command have a fault
+pub fault_read : (asked : Result Command WordFault) (a : Answer) → refusal_of asked ≡ Some a → (fault : WordFault) × (asked ≡ Err fault) × (answer_of_fault fault ≡ a)
+fault_read (Ok command) a e = cc
+fault_read (Err fault) a e = (fault, refl, cc)
+
+-- a run has the limit of the words
+pub run_has_limit : (asked : Result Command WordFault) (words : List (List ℕ)) (i : Image) (a : List (List ℕ)) (n : ℕ) → command_of words ≡ asked → IsPlanFor asked words (Run i a n) → HasLimit words n
+run_has_limit (Ok (Plain limit file)) words i a n read kind = (file, subst (λ (m : ℕ). command_of words ≡ Ok (Plain m file)) (sym kind.2) read)
+run_has_limit (Ok Kernel) words i a n read kind = cc
+run_has_limit (Ok (Asm file)) words i a n read kind = absurd kind
+run_has_limit (Err fault) words i a n read kind = cc
+
+-- one thing is planned
+pub same_listing : (l m : Listing) → put l ≡ put m → l ≡ m
+same_listing l m e = cc
+
+pub same_refusal : (a b : Answer) → refuse a ≡ refuse b → a ≡ b
+same_refusal a b e = cc
+
+choice_not_put : (b : Bool) (p : Planned) (answer : Answer) (l : Listing) → (p ≡ put l → ⊥) → (if b then p else refuse answer) ≡ put l → ⊥
+choice_not_put true p answer l never e = never e
+choice_not_put false p answer l never e = cc
+
+-- a program is never put
+file_not_put : (limit : ℕ) (args : List (List ℕ)) (file : Option (List ℕ)) (l : Listing) → planned_file limit args file ≡ put l → ⊥
+file_not_put limit args None l e = cc
+file_not_put limit args (Some bytes) l e = image_not_put (fault_of bytes) e
+  where
+    image_not_put : (fault : Option ElfFault) → planned_image limit args bytes fault ≡ put l → ⊥
+    image_not_put None is = choice_not_put (nat_le (main_vars_length args) main_vars_limit) (run (image_of bytes) args limit) (ArgsTooLong (main_vars_length args)) l (λ same. cc) is
+    image_not_put (Some fault) is = cc
+
+planned_is_listing : (asked : Result Command WordFault) (words : List (List ℕ)) (t : Tree) (l : Listing) → planned_command asked words t ≡ put l → IsListing asked
+planned_is_listing (Ok (Plain limit file)) words t l e = file_not_put limit (drop file words) (named_file file words t) l e
+planned_is_listing (Ok Kernel) words t l e = tt
+planned_is_listing (Ok (Asm file)) words t l e = tt
+planned_is_listing (Err fault) words t l e = cc
+
+-- the words ask for a listing
+pub asked_is_listing : (words : List (List ℕ)) (listing : Listing) (told : Option Tree) → AsksListing words listing told → IsListing (command_of words)
+asked_is_listing words listing told (inl asked) = subst IsListing (sym asked.0) tt
+asked_is_listing words listing told (inr (t, plans)) = planned_is_listing (command_of words) words t listing plans.planned
+
+-- what was counted before a first step of a run is none
+pub steps_early : (steps : Option ℕ) (n : ℕ) (first : Option ℕ) → steps ≡ Some n → steps ≡ first → first ≡ Some 0 → n ≡ 0
+steps_early steps n first made early none = let same : Some n ≡ Some 0 = sym made ∙ early ∙ none in cc
+
+-- the plan for `kernel`
+pub kernel_plan : (asked : Result Command WordFault) (words : List (List ℕ)) (plan : Plan) → asked ≡ Ok Kernel → IsPlanFor asked words plan → IsPlan plan (put kernel_listing)
+kernel_plan asked words plan is kind = subst (λ (r : Result Command WordFault). IsPlanFor r words plan) is kind
+
+-- a command that was read is sound
+pub sound_as : (asked : Result Command WordFault) (count : ℕ) → IfOk asked (IsSound count) → (command : Command) → asked ≡ Ok command → IsSound count command
+sound_as asked count sound command is = subst (λ (r : Result Command WordFault). IfOk r (IsSound count)) is sound
+
+-- words that are refused name no file
+pub refused_names_none : (asked : Result Command WordFault) → IsSome (refusal_of asked) → NamesNone asked
+refused_names_none (Ok command) some = cc
+refused_names_none (Err fault) some = tt
+
+pub some_is : (o : Option Answer) → IsSome o → (a : Answer) × (o ≡ Some a)
+some_is None some = cc
+some_is (Some a) some = (a, refl)
