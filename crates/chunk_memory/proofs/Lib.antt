@@ -1,0 +1,14 @@
+pub mod DirectLemmas
+pub mod PieceLemmas
+pub mod RamBytes
+pub mod RamLemmas
+pub mod RangeSpelled
+pub mod ReadSpelled
+pub mod SizeLemmas
+pub mod Stays
+pub mod StepLemmas
+pub mod ToldLemmas
+pub mod TurnLemmas
+pub mod TurnSteps
+pub mod WordLemmas
+pub mod WriteSpelled

@@ -1,0 +1,7 @@
+use Rattle.std.proofs.Common.{◌≡◌, ℕ, List, length, ap, subst}
+use Rattle.std.specs.Result.{result_err}
+use Rattle.chunk_memory.specs.Ports.{Maps}
+use Rattle.chunk_memory.proofs.chunked.Chunked.write_u64.Goals as goal
+
+pub returns-clause-maps : goal.returns-clause-maps
+returns-clause-maps g c = subst (λ (n : ℕ). Maps c.args.at n (result_err c.write.result)) (ap (λ (l : List ℕ). length l) c.to_le_bytes.ensures) c.write.ensures.maps

@@ -1,0 +1,11 @@
+pub mod BeatChunks
+pub mod BeatLaws
+pub mod Ports
+pub mod RamLaws
+pub mod RamTurns
+pub mod Ranges
+pub mod Reached
+pub mod Spelling
+pub mod Steps
+pub mod Transactions
+pub mod Turns
