@@ -1,10 +1,9 @@
 -- What the kernel's items stand for, by computation.
-use Rattle.std.proofs.Common.{◌≡◌, true, List, length, map, All, Ok, Some, refl}
+use Rattle.std.proofs.Common.{◌≡◌, true, length, map, All, Ok, Some, refl}
 use Rattle.std.specs.List.{list_all}
 use Rattle.fe_base.specs.MemoryMap.{kernel_start}
-use Rattle.rv_decode.specs.declared.instruction.Insn.{Insn}
 use Rattle.rv_decode.specs.InsnTable.{insn_of, branch_of, load_of, store_of, op_imm_of, op_of, op_base_of, op_alternate_of, system_of, jalr_of}
-use Rattle.asm_items.specs.ItemMeaning.{assembled, Code, Part, total_words}
+use Rattle.asm_items.specs.ItemMeaning.{assembled, Code, total_words}
 use Rattle.asm_items.specs.Printable.{IsPrintable}
 use Rattle.proxy_kernel.specs.Kernel.{kernel}
 use Rattle.proxy_kernel.specs.KernelWords.{kernel_count, kernel_insns, kernel_words}
