@@ -1,0 +1,9 @@
+pub mod Turn
+pub mod TraceLine
+pub mod Trace
+pub mod Lined
+pub mod TurnLaws
+pub mod Puts
+pub mod HartLaws
+pub mod StepLaws
+pub mod TargetLaws

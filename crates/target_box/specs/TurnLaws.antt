@@ -1,0 +1,61 @@
+-- The laws of turns and of traces. A reader need not believe them: each is proved.
+use Rattle.std.specs.Prelude.{◌≡◌, ◌≤◌, ◌+◌, ℕ, List, [], ◌∷◌, ◌++◌, length, All, Option, Some}
+use Rattle.fe_base.specs.Beats.{Beat, IsBeat}
+use Rattle.fe_base.specs.Limits.{pause_limit}
+use Rattle.fe_base.specs.PausePlan.{PausePlan}
+use Rattle.rv_hart.specs.declared.debug.Run.TheVariants.{Held}
+use Rattle.target_box.specs.Lined.{Lined, lined, next_line, lost_line}
+use Rattle.target_box.specs.Trace.{Entry, IsLegal, trace_text}
+use Rattle.target_box.specs.Turn.{TargetState, IsTarget, reset_target, next_turn, beat_done, beat_reply}
+use Rattle.target_box.specs.declared.target.Link.{Link}
+use Rattle.target_box.specs.declared.target.Link.TheVariants.{Direct}
+
+-- while the start word is 0 and the hart is held, a turn changes nothing but the doubleword that its beat writes, whatever its pause
+abbrev pub HeldTurnsOnlyWrite : Type 0
+HeldTurnsOnlyWrite =
+    (target : TargetState) (ask : Beat) → target.system.hart.run ≡ Held → target.system.bus.start ≡ 0 →
+    next_turn target ask ≡ (record target { system = beat_done ask target.system; turns = target.turns + 1 }, beat_reply ask target.system)
+
+-- a turn keeps limit, pauses and link, is counted, and makes at most a longest pause of user steps
+pub record TurnKeeps (before after : TargetState) : Type 0 where
+  pub limit : after.limit ≡ before.limit
+  pub pauses : after.pauses ≡ before.pauses
+  pub link : after.link ≡ before.link
+  pub turns : after.turns ≡ before.turns + 1
+  pub user_steps : after.system.hart.user_steps ≤ before.system.hart.user_steps + pause_limit
+
+abbrev pub TurnsKeep : Type 0
+TurnsKeep = (link : Link) (target : TargetState) (ask : Beat) → IsTarget link target → TurnKeeps target (next_turn target ask).0
+
+-- a line's transactions one after the other
+abbrev pub all_lines : List Beat → Lined → Lined
+all_lines [] line = line
+all_lines (ask ∷ more) line = all_lines more (next_line line ask).0
+
+-- the trace of some transactions: one entry for each, legal, and its text is what was put
+pub record IsTraced (pauses : PausePlan) (limit count : ℕ) (put : Option (List ℕ)) (last : TargetState) : Type 0 where
+  pub entries : List Entry
+  pub legal : IsLegal (reset_target pauses limit Direct) entries last
+  pub one_each : length entries ≡ count
+  pub text : put ≡ Some (trace_text entries)
+
+-- transactions from the reset target with an empty trace make a legal trace and its text
+abbrev pub LinesAreTraced : Type 0
+LinesAreTraced =
+    (pauses : PausePlan) (limit : ℕ) (asks : List Beat) → All IsBeat asks →
+    IsTraced pauses limit (length asks) (all_lines asks (lined (reset_target pauses limit Direct) (Some []))).trace
+    (all_lines asks (lined (reset_target pauses limit Direct) (Some []))).target
+
+-- where the last one's line is not put, the target is that of the legal trace with it, and the text that of the trace without it
+pub record IsCutTrace (pauses : PausePlan) (limit count : ℕ) (put : Option (List ℕ)) (last : TargetState) : Type 0 where
+  pub entries : List Entry
+  pub unput : Entry
+  pub legal : IsLegal (reset_target pauses limit Direct) (entries ++ unput ∷ []) last
+  pub one_each : length entries ≡ count
+  pub text : put ≡ Some (trace_text entries)
+
+abbrev pub LostLinesAreCut : Type 0
+LostLinesAreCut =
+    (pauses : PausePlan) (limit : ℕ) (asks : List Beat) (last : Beat) → All IsBeat asks → IsBeat last →
+    IsCutTrace pauses limit (length asks) (lost_line (all_lines asks (lined (reset_target pauses limit Direct) (Some []))) last).0.trace
+    (lost_line (all_lines asks (lined (reset_target pauses limit Direct) (Some []))) last).0.target

@@ -1,0 +1,111 @@
+// A wire to a target, which puts a line to a trace behind each transaction.
+ghost use Rattle.std.specs.Prelude.{◌≡◌, ◌≤◌, ◌<◌, ◌+◌, ◌-◌, ◌*◌, ◌++◌, List, ℕ, [], ◌∷◌, Some, None, Option, length, OnOk, IfErr};
+ghost use Rattle.core.specs.Option.{option_map};
+ghost use Rattle.fe_base.specs.Outside.{capacity, PutSuits, HasCause};
+ghost use Rattle.fe_base.specs.Wires.{FailsBy, StaysUnfailed};
+ghost use Rattle.target_box.specs.Lined.{Lined, lined, seen, next_line, lost_line, IsDirectLine, IsPositiveLine};
+ghost use Rattle.target_box.specs.StepLaws.{steps-none, steps-more};
+ghost use Rattle.target_box.specs.TargetLaws.{next-turns, lost-turns};
+ghost use Rattle.target_box.specs.Puts.{PutLine};
+ghost use Rattle.target_box.specs.Turn.{IsUsable, ran, touched};
+ghost use Rattle.target_box.specs.declared.target.Link.TheVariants as link_of;
+ghost use Rattle.rv_hart.specs.HartStep.{System};
+
+use crate::target::Target;
+use crate::trace::{Text, beat_line};
+use fe_base::{BeatWire, Failed, Sink, WireStop};
+
+/// A wire to a target, with the sink for its trace. Where no trace is wanted, that is `fe_base::NoTrace`.
+#[derive(Drop)]
+pub struct Line<'a, R: Sink> {
+    /// The target.
+    pub target: &'a mut Target,
+    /// Where the trace goes.
+    pub trace: &'a mut R,
+}
+
+// Puts a line.
+fn put_line<R: Sink>(trace: &mut R, text: &Text) -> Result<(), WireStop>
+    ensures { PutLine R.held R.room R.faults R.steady trace.old trace.new text.now.bytes result }
+{
+    match trace.put(text.as_str().as_bytes()) {
+        Ok(()) => Ok(()),
+        Err(Failed) => Err(WireStop::Failed),
+    }
+}
+
+impl<'a, R: Sink> Line<'a, R> {
+    /// Gives up what the line was lent, as it is.
+    pub fn end(self)
+        ensures target { self.exit.0.now ≡ self.entry.target.now }
+        ensures trace { self.exit.1.0.now ≡ self.entry.trace.now }
+    {
+        let Line {
+            target: _,
+            trace: _,
+        } = self;
+    }
+}
+
+impl<'a, R: Sink> BeatWire for Line<'a, R> {
+    ghost State = { Lined };
+
+    ghost View = { System };
+
+    ghost view = { seen };
+
+    ghost told = { λ l. Some (lined l.target.now (R.held l.trace.now)) };
+
+    ghost valid = { IsDirectLine };
+
+    ghost usable = { λ l. IsUsable link_of.Direct l.target.now };
+
+    ghost kept = { λ l. record {
+      lent = l.target.ghost_name ∷ l.trace.ghost_name ∷ [];
+      capacity = capacity (R.held l.trace.now) (R.room l.trace.now);
+    } };
+
+    ghost left = { λ l. l.target.now.limit - l.target.now.turns };
+
+    ghost faults = { λ l. R.faults l.trace.now };
+
+    ghost steady = { λ l. R.steady l.trace.now
+        × PutSuits (R.room l.trace.now) (64 * (l.target.now.limit - l.target.now.turns)) };
+
+    ghost positive = { IsPositiveLine };
+
+    ghost next = { next_line };
+
+    ghost lost = { lost_line };
+
+    ghost ran = { ran };
+
+    ghost touched = { touched };
+
+    fn read_beat(&mut self, at: u64) -> Result<u64, WireStop> {
+        if self.target.is_spent() {
+            return Err(WireStop::Spent);
+        }
+        let (pause, value) = self.target.read_turn(at);
+        put_line(self.trace, &beat_line(pause, " r ", at, value))?;
+        Ok(value)
+    }
+
+    fn write_beat(&mut self, at: u64, value: u64) -> Result<(), WireStop> {
+        if self.target.is_spent() {
+            return Err(WireStop::Spent);
+        }
+        let pause = self.target.write_turn(at, value);
+        put_line(self.trace, &beat_line(pause, " w ", at, value))
+    }
+
+    ghost tells_valid = { λ l usable. usable.target_is };
+
+    ghost ran_none = { steps-none };
+
+    ghost ran_more = { steps-more };
+
+    ghost turns = { next-turns };
+
+    ghost turns_lost = { lost-turns };
+}
