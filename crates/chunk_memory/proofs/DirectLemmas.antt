@@ -1,22 +1,19 @@
 -- The loops over the beats of a chunk.
-use Rattle.std.proofs.Common.{◌≡◌, ℕ, zero, suc, ◌+◌, ◌-◌, ◌*◌, ◌/◌, ◌%◌, ◌^◌, ◌<◌, ◌≤◌, min, List, [], ◌∷◌, ◌++◌, length, take, drop, length-append, length-take, length-drop, take-append-drop, append_assoc, append-nil, refl, sym, ap, subst, ◌∙◌, arith}
-use Rattle.std.specs.Int.{to_le_bytes, from_le_bytes, w64}
-use Rattle.std.specs.Prelude.{Option, Some, None, Result, Ok, Err}
-use Rattle.std.proofs.lemmas.List.{length-take-le, take_at, take_all, take_rest}
+use Rattle.std.proofs.Common.{◌≡◌, ℕ, suc, ◌+◌, ◌-◌, ◌*◌, ◌/◌, ◌%◌, ◌^◌, ◌<◌, ◌≤◌, List, [], ◌∷◌, ◌++◌, length, take, drop, length-append, length-drop, take-append-drop, append-nil, refl, sym, ap, subst, ◌∙◌, arith}
+use Rattle.std.specs.Int.{to_le_bytes, w64}
+use Rattle.std.specs.Prelude.{Some, None, Ok, Err}
+use Rattle.std.proofs.lemmas.List.{length-take-le, take_at, take_all}
 use Rattle.std.proofs.Math.Seq.{take-add}
 use Rattle.byteorder.specs.Endian.{little_number, little_bytes}
 use Rattle.fe_base.specs.Beats.{Beat, ReadBeat, WriteBeat}
-use Rattle.fe_base.specs.Outside.{Rose}
 use Rattle.fe_base.specs.Wires.{Asked, Lowers, FailsBy}
 use Rattle.fe_base.specs.declared.wires.WireStop.{WireStop}
 use Rattle.fe_base.specs.declared.wires.WireStop.TheVariants.{Spent as WireSpent, Failed}
 use Rattle.chunk_memory.specs.BeatLaws.{eight-of, length-bytes_of, bytes_of-append, fit-append}
 use Rattle.chunk_memory.proofs.StepLemmas.{put-take}
 use Rattle.chunk_memory.proofs.WordLemmas.{words, AreSmall, words-fit, words-bytes, small-drop, first-number}
-use Rattle.chunk_memory.specs.BeatChunks.{bytes_of, AreDoublewords, BeatsRead, BeatsWritten, ReadByBeats, WrittenByBeats, BeatStopped, ReadByBeatsUntil, WrittenByBeatsUntil, of_wire, wire_counts}
-use Rattle.chunk_memory.specs.Ports.{Counts, PortCauses}
-use Rattle.chunk_memory.specs.declared.stops.PortStop.{PortStop}
-use Rattle.chunk_memory.specs.declared.stops.PortStop.TheVariants.{Spent, WireFault, CmdErr}
+use Rattle.chunk_memory.specs.BeatChunks.{bytes_of, BeatsRead, BeatsWritten, ReadByBeats, WrittenByBeats, BeatStopped, ReadByBeatsUntil, WrittenByBeatsUntil, of_wire, wire_counts}
+use Rattle.chunk_memory.specs.Ports.{PortCauses}
 use borrow.Rule.Slice.PartMut.{put_mid}
 
 module _ {S : Type 0} (next : S → Beat → S × ℕ) where

@@ -1,4 +1,5 @@
 pub mod DirectLemmas
+pub mod DirectTurns
 pub mod PieceLemmas
 pub mod RamBytes
 pub mod RamLemmas

@@ -1,11 +1,11 @@
 -- Pieces of a range: numbers, and accesses of a chunk as accesses of the range that it begins.
-use Rattle.std.proofs.Common.{◌≡◌, ◌≢◌, ℕ, zero, suc, ◌+◌, ◌-◌, ◌%◌, ◌^◌, ◌<◌, ◌≤◌, min, Bool, true, false, List, [], ◌∷◌, ◌++◌, length, take, drop, length-append, length-take, length-drop, take-append-drop, append_assoc, append-nil, refl, sym, ap, subst, ◌∙◌, arith, ◌⊎◌, inl, inr}
-use Rattle.std.specs.Int.{to_le_bytes, w32, w64}
-use Rattle.std.proofs.lemmas.List.{length-take-le, take_at, drop_at, take_all, take-take, drop-take, drop-drop, take-append-le, drop-append-le, nil_from_length}
+use Rattle.std.proofs.Common.{◌≡◌, ℕ, ◌+◌, ◌-◌, ◌%◌, ◌^◌, ◌<◌, ◌≤◌, min, Bool, true, false, List, [], ◌∷◌, ◌++◌, length, take, drop, length-append, length-drop, take-append-drop, refl, sym, ap, subst, ◌∙◌, arith, ◌⊎◌, inl, inr}
+use Rattle.std.specs.Int.{to_le_bytes, w64}
+use Rattle.std.proofs.lemmas.List.{length-take-le, take_at, drop_at, take_all, take-take, drop-take, drop-drop, take-append-le, drop-append-le}
 use Rattle.fe_base.specs.Access.{Access, Loaded, Stored, StoredLow, StoredHigh}
-use Rattle.chunk_memory.proofs.SizeLemmas.{by_unit, step-fits, step_size-part, step_size-whole, chunk_size-part, chunk_size-whole, whole-is, part-is, unit-bounds}
-use Rattle.chunk_memory.specs.Ports.{IsChunk, ArePortSizes}
-use Rattle.chunk_memory.specs.Spelling.{IsPiece, LoadsPiece, SpellsRead}
+use Rattle.chunk_memory.proofs.SizeLemmas.{by_unit, step-fits, step_size-part, step_size-whole, chunk_size-part, chunk_size-whole, whole-is, unit-bounds}
+use Rattle.chunk_memory.specs.Ports.{ArePortSizes}
+use Rattle.chunk_memory.specs.Spelling.{IsPiece, SpellsRead}
 use Rattle.chunk_memory.specs.Transactions.{begins_in_part, chunk_size, step_size, ReadStep}
 
 -- ---- the numbers of a unit in its doubleword

@@ -1,12 +1,11 @@
 -- Ranges of an area over a port to a bus, by the bytes of the area.
-use Rattle.std.proofs.Common.{◌≡◌, ℕ, ◌+◌, ◌-◌, ◌%◌, ◌≤◌, List, length, take, drop, refl, sym, ap, subst, ◌∙◌, arith}
+use Rattle.std.proofs.Common.{◌≡◌, ℕ, ◌+◌, ◌-◌, ◌%◌, ◌≤◌, List, length, take, drop, sym, ap, ◌∙◌, arith}
 use Rattle.std.specs.Prelude.{Some}
 use Rattle.fe_base.specs.Access.{Access, Loaded, Stored, StoredLow, StoredHigh}
-use Rattle.fe_base.specs.MemoryMap.{user_start, user_end, kernel_start, kernel_end}
 use Rattle.guest_memory.proofs.PartLemmas.{store-is, length-with_part}
-use Rattle.guest_memory.specs.Bus.{BusState, beat, with_beat}
+use Rattle.guest_memory.specs.Bus.{BusState, with_beat}
 use Rattle.guest_memory.specs.Memory.{load, store, with_part}
-use Rattle.chunk_memory.proofs.RamLemmas.{Area, user_area, kernel_area}
+use Rattle.chunk_memory.proofs.RamLemmas.{Area}
 use Rattle.chunk_memory.proofs.Stays.{read-stays, write-stays}
 use Rattle.chunk_memory.proofs.WordLemmas.{AreSmall, part-small, word-small}
 use Rattle.chunk_memory.specs.BeatLaws.{direct_sizes}

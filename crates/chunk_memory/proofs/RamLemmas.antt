@@ -1,27 +1,25 @@
 -- Slices of a bus as beats, one for each doubleword.
-use Rattle.std.proofs.Common.{◌≡◌, ◌≢◌, ℕ, zero, suc, ◌+◌, ◌-◌, ◌*◌, ◌/◌, ◌%◌, ◌^◌, ◌<◌, ◌≤◌, true, false, List, [], ◌∷◌, ◌++◌, length, take, drop, get_or, length-append, length-take, length-drop, take-append-drop, append_assoc, append-nil, refl, sym, ap, subst, ◌∙◌, arith, ◌⊎◌, inl, inr}
+use Rattle.std.proofs.Common.{◌≡◌, ◌≢◌, ℕ, zero, suc, ◌+◌, ◌-◌, ◌*◌, ◌/◌, ◌%◌, ◌^◌, ◌<◌, ◌≤◌, true, false, List, [], ◌∷◌, ◌++◌, length, take, drop, length-append, length-take, length-drop, take-append-drop, append_assoc, append-nil, refl, sym, ap, subst, ◌∙◌, arith, inl, inr}
 use Rattle.std.specs.Int.{to_le_bytes, from_le_bytes, w64}
-use Rattle.std.specs.Prelude.{IsTrue, Option, Some, unwrap_or, nat_lt}
+use Rattle.std.specs.Prelude.{IsTrue, Option, Some, unwrap_or}
 use Rattle.std.proofs.lemmas.Bool.{cases_lt, false≢true}
 use Rattle.std.proofs.lemmas.Bool.Decides.{nat_tests}
-use Rattle.std.proofs.lemmas.List.{length-take-le, take-take, drop-take, drop-drop, take_at, take_all, get_or-take, get_or-drop, get_or_past, nil_from_length}
-use Rattle.std.proofs.lemmas.Nat.{le_bytes_8}
-use Rattle.std.proofs.Math.Seq.{take-add, drop-append-add}
+use Rattle.std.proofs.lemmas.List.{length-take-le, take-take, drop-take, drop-drop, take_at, take_all, nil_from_length}
+use Rattle.std.proofs.Math.Seq.{drop-append-add}
 use Rattle.byteorder.specs.Endian.{little_number, little_bytes}
-use Rattle.fe_base.specs.Beats.{Beat, ReadBeat, WriteBeat, IsBeat, beat_access}
-use Rattle.fe_base.specs.MemoryMap.{user_start, user_end, start_word, kernel_start, kernel_end, is_ram, is_mapped, is_beat}
+use Rattle.fe_base.specs.MemoryMap.{user_start, user_end, start_word, kernel_start, kernel_end, is_ram, is_mapped}
 use Rattle.guest_memory.proofs.AreaLemmas.{is_ram-user, is_ram-kernel, bus_load-user, bus_load-kernel, bus_store-user, bus_store-kernel, bus_bytes-user, bus_bytes-kernel, with_bus_bytes-user, with_bus_bytes-kernel}
-use Rattle.guest_memory.proofs.BusLemmas.{user_range, kernel_range, is_beat-ram, is_beat-start, beat-ram, beat-start, with_beat-ram, with_beat-start}
+use Rattle.guest_memory.proofs.BusLemmas.{is_beat-ram, beat-ram, with_beat-ram}
 use Rattle.guest_memory.proofs.MemoryLemmas.{load-take}
 use Rattle.guest_memory.proofs.PartLemmas.{store-is, length-with_part}
 use Rattle.guest_memory.specs.Bus.{BusState, beat, with_beat, bus_bytes, with_bus_bytes}
 use Rattle.guest_memory.specs.Memory.{load, store, with_part}
 use Rattle.chunk_memory.proofs.WordLemmas.{words, AreSmall, number-of, words-fit, words-bytes, length-words, first-number}
-use Rattle.chunk_memory.specs.BeatLaws.{eight-of, length-bytes_of}
-use Rattle.chunk_memory.specs.BeatChunks.{bytes_of, AreDoublewords, BeatsRead, BeatsWritten, ReadByBeats, WrittenByBeats}
+use Rattle.chunk_memory.specs.BeatLaws.{eight-of}
+use Rattle.chunk_memory.specs.BeatChunks.{bytes_of, BeatsRead, BeatsWritten, ReadByBeats, WrittenByBeats}
 use Rattle.chunk_memory.specs.Ports.{IsChunk}
 use Rattle.chunk_memory.specs.RamTurns.{ram_turn}
-use Rattle.chunk_memory.specs.Ranges.{Meets, IsMappedRange}
+use Rattle.chunk_memory.specs.Ranges.{IsMappedRange}
 
 -- ---- one part of a list behind another
 pub part-joins : (area front rest : List ℕ) (p : ℕ) → p + length front ≤ length area → with_part (with_part area p front) (p + length front) rest ≡ with_part area p (front ++ rest)

@@ -1,6 +1,6 @@
 -- The accesses of a range, from what its chunks did.
-use Rattle.std.proofs.Common.{◌≡◌, ℕ, ◌<◌, List, [], ◌∷◌, ◌++◌, length, append_assoc, refl, sym, ap, subst, ◌∙◌}
-use Rattle.std.specs.Prelude.{Result, Ok, Err}
+use Rattle.std.proofs.Common.{◌≡◌, ℕ, List, [], ◌∷◌, ◌++◌, length, append_assoc, sym, ap, subst, ◌∙◌}
+use Rattle.std.specs.Prelude.{Err}
 use Rattle.fe_base.specs.Access.{Access}
 use Rattle.chunk_memory.proofs.ReadSpelled.{ReadBegun, read-made, read-begun}
 use Rattle.chunk_memory.proofs.WordLemmas.{AreSmall}
@@ -8,8 +8,8 @@ use Rattle.chunk_memory.proofs.WriteSpelled.{WriteBegun, write-made, write-begun
 use Rattle.chunk_memory.specs.Ports.{ArePortSizes, of_port}
 use Rattle.chunk_memory.specs.Ranges.{IsMappedRange}
 use Rattle.chunk_memory.specs.Reached.{OneReaches, RefusedReaches}
-use Rattle.chunk_memory.specs.Spelling.{SpellsRead, SpellsWrite, ReadWhole, ReadUntil, ReadSpelled, WriteWhole, WriteUntil, WriteSpelled}
-use Rattle.chunk_memory.specs.Transactions.{Chunk, ReadChunks, WriteChunks, Made, Cut, WasRead, WasReadUntil, WasWritten, WasWrittenUntil}
+use Rattle.chunk_memory.specs.Spelling.{ReadWhole, ReadUntil, ReadSpelled, WriteWhole, WriteUntil, WriteSpelled}
+use Rattle.chunk_memory.specs.Transactions.{Chunk, ReadChunks, WriteChunks, WasRead, WasReadUntil, WasWritten, WasWrittenUntil}
 use Rattle.chunk_memory.specs.declared.stops.PortStop.{PortStop}
 use Rattle.chunk_memory.specs.declared.stops.PortStop.TheVariants.{Spent, WireFault, CmdErr}
 

@@ -1,5 +1,5 @@
 -- The accesses of a read, from those of its chunks.
-use Rattle.std.proofs.Common.{◌≡◌, ℕ, zero, suc, ◌+◌, ◌-◌, ◌*◌, ◌/◌, ◌%◌, ◌^◌, ◌<◌, ◌≤◌, min, Bool, true, false, List, [], ◌∷◌, ◌++◌, length, take, drop, length-append, length-take, length-drop, append_assoc, append-nil, refl, sym, ap, subst, ◌∙◌, arith, ◌⊎◌, inl, inr}
+use Rattle.std.proofs.Common.{◌≡◌, ℕ, zero, suc, ◌+◌, ◌-◌, ◌*◌, ◌/◌, ◌%◌, ◌<◌, ◌≤◌, min, Bool, true, false, List, [], ◌∷◌, ◌++◌, length, take, drop, length-append, length-drop, append_assoc, refl, sym, ap, subst, ◌∙◌, arith, inl, inr}
 use Rattle.std.specs.Int.{to_le_bytes, w64}
 use Rattle.std.proofs.lemmas.List.{length-take-le, take_at, drop_at}
 use Rattle.fe_base.specs.Access.{Access, Loaded}
@@ -9,8 +9,8 @@ use Rattle.chunk_memory.proofs.StepLemmas.{read-step}
 use Rattle.chunk_memory.specs.BeatLaws.{eight-of}
 use Rattle.chunk_memory.specs.Ports.{IsChunk, ArePortSizes}
 use Rattle.chunk_memory.specs.Ranges.{IsMappedRange}
-use Rattle.chunk_memory.specs.Reached.{ChunkReached, ChunkBegun, OneReaches, RefusedReaches, IsNoCommand, AsksSame}
-use Rattle.chunk_memory.specs.Spelling.{IsPiece, LoadsPiece, SpellsRead, SpellsChunk, IsOneAccess}
+use Rattle.chunk_memory.specs.Reached.{OneReaches, RefusedReaches, IsNoCommand, AsksSame}
+use Rattle.chunk_memory.specs.Spelling.{IsPiece, SpellsRead, SpellsChunk, IsOneAccess}
 use Rattle.chunk_memory.specs.Transactions.{Chunk, ReadChunk, WriteChunk, begins_in_part, chunk_size, step_size, ReadStep, ReadChunks, Made}
 use Rattle.chunk_memory.specs.declared.stops.PortStop.{PortStop}
 

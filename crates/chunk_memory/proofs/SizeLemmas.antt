@@ -1,8 +1,7 @@
 -- The sizes of a range's first chunk, and that it may be asked for.
-use Rattle.std.proofs.Common.{◌≡◌, ◌≢◌, ℕ, zero, suc, ◌+◌, ◌-◌, ◌*◌, ◌/◌, ◌%◌, ◌<◌, ◌≤◌, min, Bool, true, false, refl, sym, ap, subst, ◌∙◌, arith, ◌⊎◌, inl, inr}
+use Rattle.std.proofs.Common.{◌≡◌, ◌≢◌, ℕ, ◌+◌, ◌-◌, ◌*◌, ◌/◌, ◌%◌, ◌<◌, ◌≤◌, min, Bool, true, false, refl, sym, ap, subst, ◌∙◌, arith, ◌⊎◌, inl, inr}
 use Rattle.std.proofs.lemmas.Bool.Decides.{nat_tests}
-use Rattle.std.specs.Prelude.{nat_lt, ◌==◌, ◌||◌, not, if◌then◌else◌}
-use Rattle.fe_base.specs.MemoryMap.{user_start, user_end, start_word, kernel_start, kernel_end, is_mapped}
+use Rattle.fe_base.specs.MemoryMap.{kernel_end, is_mapped}
 use Rattle.chunk_memory.specs.Ports.{IsChunk, ArePortSizes}
 use Rattle.chunk_memory.specs.Ranges.{Meets, IsMappedRange}
 use Rattle.chunk_memory.specs.Transactions.{begins_in_part, chunk_size, step_size}

@@ -1,5 +1,5 @@
 -- Ranges that are read and written of an area that nothing else changes, with steps before, between and after the accesses.
-use Rattle.std.proofs.Common.{◌≡◌, ℕ, ◌+◌, ◌-◌, ◌%◌, ◌<◌, ◌≤◌, List, [], ◌∷◌, ◌++◌, length, take, drop, length-append, length-take, length-drop, take-append-drop, append_assoc, refl, sym, ap, subst, ◌∙◌, arith, ◌^◌}
+use Rattle.std.proofs.Common.{◌≡◌, ℕ, ◌+◌, ◌-◌, ◌%◌, ◌<◌, ◌≤◌, List, [], ◌∷◌, ◌++◌, length, take, drop, length-drop, take-append-drop, append_assoc, sym, ap, subst, ◌∙◌, arith, ◌^◌}
 use Rattle.std.specs.Int.{to_le_bytes, w64}
 use Rattle.std.proofs.lemmas.List.{length-take-le, take-take, drop-take, drop-drop, take_all, nil_from_length}
 use Rattle.std.proofs.lemmas.Nat.{le_bytes_8}
@@ -8,13 +8,13 @@ use Rattle.fe_base.specs.Access.{Access, Loaded, Stored, StoredLow, StoredHigh}
 use Rattle.guest_memory.proofs.MemoryLemmas.{load-take}
 use Rattle.guest_memory.proofs.PartLemmas.{length-with_part}
 use Rattle.guest_memory.specs.Memory.{load, with_part}
-use Rattle.chunk_memory.proofs.PieceLemmas.{UnitPlace, unit-place, part-of}
+use Rattle.chunk_memory.proofs.PieceLemmas.{unit-place, part-of}
 use Rattle.chunk_memory.proofs.RamLemmas.{part-joins, none-is}
 use Rattle.chunk_memory.proofs.WordLemmas.{AreSmall, small-drop, small-take, number-of}
 use Rattle.chunk_memory.specs.BeatLaws.{eight-of}
 use Rattle.chunk_memory.specs.Ports.{ArePortSizes}
 use Rattle.chunk_memory.specs.Reached.{Reached}
-use Rattle.chunk_memory.specs.Spelling.{LoadsPiece, StoresPiece, MergesPiece, SpellsRead, SpellsWrite, place_of, stored_at, stored_bytes, StoredFits, IsOneAccess}
+use Rattle.chunk_memory.specs.Spelling.{StoresPiece, MergesPiece, SpellsRead, SpellsWrite, place_of, stored_at, stored_bytes, StoredFits, IsOneAccess}
 
 -- the bytes of a doubleword of an area
 le-load : (area : List ℕ) (place : ℕ) → place + 8 ≤ length area → AreSmall area → to_le_bytes w64 (load area place 8) ≡ take 8 (drop place area)

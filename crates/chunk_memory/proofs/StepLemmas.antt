@@ -5,10 +5,10 @@ use Rattle.std.proofs.Math.Seq.{take-add}
 use Rattle.std.proofs.lemmas.List.{length-take-le, length-replicate, take_at, drop_at, take_all, drop-drop, take-append-le, nil_from_length}
 use borrow.Rule.Slice.PartMut.{put_mid}
 use Rattle.guest_memory.specs.Memory.{with_part}
-use Rattle.chunk_memory.proofs.SizeLemmas.{StepFits, step-fits, whole-is}
+use Rattle.chunk_memory.proofs.SizeLemmas.{StepFits, step-fits}
 use Rattle.chunk_memory.specs.Ports.{ArePortSizes}
 use Rattle.chunk_memory.specs.Steps.{WriteStep, ReadNext, WriteNext}
-use Rattle.chunk_memory.specs.Transactions.{Chunk, ReadChunk, WriteChunk, begins_in_part, chunk_size, step_size, ReadStep, ReadChunks, WholeStep, PartStep, WriteChunks, Made, Cut, WasRead, WasReadUntil, Reads, WasWritten, WasWrittenUntil, Writes}
+use Rattle.chunk_memory.specs.Transactions.{Chunk, ReadChunk, WriteChunk, begins_in_part, chunk_size, step_size, ReadStep, ReadChunks, WriteChunks, Made, Cut, Reads, Writes}
 use Rattle.chunk_memory.specs.declared.stops.PortStop.{PortStop}
 
 -- bytes behind others, where they were read

@@ -1,12 +1,11 @@
 -- What is told and what is counted, over one call after another.
-use Rattle.std.proofs.Common.{◌≡◌, ℕ, ◌+◌, ◌≤◌, ◌^◌, min, Option, Some, None, refl, sym, ap, subst, ◌∙◌, arith}
+use Rattle.std.proofs.Common.{◌≡◌, ℕ, ◌≤◌, Option, Some, None, refl, ap, subst, ◌∙◌, arith}
 use Rattle.fe_base.specs.Outside.{Rose}
 use Rattle.fe_base.specs.Wires.{OnTold, IfTold}
 use Rattle.chunk_memory.specs.Ports.{Counts, PortCauses, MemCauses, StaysUnfaulted, MemUnfaulted, of_port}
 use Rattle.chunk_memory.specs.declared.stops.PortStop.{PortStop}
 use Rattle.chunk_memory.specs.declared.stops.PortStop.TheVariants.{Spent as PortSpent, WireFault as PortFault, CmdErr as PortError}
-use Rattle.chunk_memory.specs.declared.stops.MemStop.{MemStop}
-use Rattle.chunk_memory.specs.declared.stops.MemStop.TheVariants.{Unmapped, Spent, WireFault, CmdErr}
+use Rattle.chunk_memory.specs.declared.stops.MemStop.TheVariants.{Unmapped}
 
 module _ {S : Type 0} where
   pub told-as : (before after : Option S) (R Q : S → S → Type 0) → ((a b : S) → R a b → Q a b) → OnTold before after R → OnTold before after Q

@@ -1,6 +1,6 @@
 -- How many transactions a range takes at most, step by step.
 use Rattle.std.proofs.Common.{◌≡◌, ℕ, zero, suc, ◌+◌, ◌-◌, ◌<◌, ◌≤◌, true, false, refl, ap, arith}
-use Rattle.chunk_memory.proofs.SizeLemmas.{StepFits, step-fits}
+use Rattle.chunk_memory.proofs.SizeLemmas.{step-fits}
 use Rattle.chunk_memory.specs.Ports.{ArePortSizes}
 use Rattle.chunk_memory.specs.Transactions.{begins_in_part, chunk_size, step_size}
 use Rattle.chunk_memory.specs.Turns.{range_turns, write_step}

@@ -1,5 +1,5 @@
 -- A port stays ready from step to step of a range, so that its transactions are counted.
-use Rattle.std.proofs.Common.{◌≡◌, ℕ, ◌+◌, ◌-◌, ◌%◌, List, [], ◌∷◌, ◌++◌, length, Result, Ok, sym, subst}
+use Rattle.std.proofs.Common.{ℕ, ◌-◌, ◌%◌, List, [], ◌∷◌, length, Ok, sym, subst}
 use Rattle.fe_base.specs.Access.{Access}
 use Rattle.chunk_memory.proofs.ReadSpelled.{step-asked}
 use Rattle.chunk_memory.proofs.WriteSpelled.{whole-asked, part-asked, put-size}

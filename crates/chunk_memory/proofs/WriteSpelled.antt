@@ -1,20 +1,20 @@
 -- The accesses of a write, from those of its chunks.
-use Rattle.std.proofs.Common.{◌≡◌, ℕ, zero, suc, ◌+◌, ◌-◌, ◌*◌, ◌/◌, ◌%◌, ◌^◌, ◌<◌, ◌≤◌, min, Bool, true, false, List, [], ◌∷◌, ◌++◌, length, take, drop, replicate, length-append, length-take, length-drop, take-append-drop, append_assoc, append-nil, refl, sym, ap, subst, ◌∙◌, arith, ◌⊎◌, inl, inr}
+use Rattle.std.proofs.Common.{◌≡◌, ℕ, zero, suc, ◌+◌, ◌-◌, ◌%◌, ◌^◌, ◌<◌, ◌≤◌, min, Bool, true, false, List, [], ◌∷◌, ◌++◌, length, take, drop, length-append, length-drop, take-append-drop, append_assoc, refl, sym, ap, subst, ◌∙◌, arith, ◌⊎◌, inl, inr}
 use Rattle.std.specs.Int.{to_le_bytes, from_le_bytes, w32, w64}
 use Rattle.std.proofs.lemmas.Bool.{cases_lt, false≢true}
-use Rattle.std.proofs.lemmas.List.{length-take-le, length-replicate, take_at, drop_at, take_all, take-append-le, drop-append-le, drop_all}
+use Rattle.std.proofs.lemmas.List.{length-take-le, take_all, take-append-le, drop-append-le, drop_all}
 use Rattle.std.proofs.lemmas.Nat.{le_bytes_4, le_bytes_8}
 use Rattle.fe_base.specs.Access.{Access, Loaded, Stored, StoredLow, StoredHigh}
 use Rattle.guest_memory.proofs.PartLemmas.{length-with_part}
 use Rattle.guest_memory.specs.Memory.{with_part}
-use Rattle.chunk_memory.proofs.PieceLemmas.{UnitPlace, unit-place, eight-unit, sum-unit, alone, even-place, piece-more, part-ends, UnitLoaded, unit-loaded}
-use Rattle.chunk_memory.proofs.ReadSpelled.{eight_sizes, EightStep, eight-step}
-use Rattle.chunk_memory.proofs.SizeLemmas.{step-fits, step_size-part, step_size-whole, chunk_size-part, chunk_size-whole, whole-is, part-is, unit-bounds, chunk-part, chunk-whole, mapped-rest}
+use Rattle.chunk_memory.proofs.PieceLemmas.{unit-place, sum-unit, alone, even-place, piece-more, part-ends, UnitLoaded, unit-loaded}
+use Rattle.chunk_memory.proofs.ReadSpelled.{eight_sizes, eight-step}
+use Rattle.chunk_memory.proofs.SizeLemmas.{step-fits, step_size-part, step_size-whole, chunk_size-part, whole-is, part-is, unit-bounds, chunk-part, chunk-whole, mapped-rest}
 use Rattle.chunk_memory.proofs.WordLemmas.{AreSmall, small-drop, small-take, word-small, part-small, half-fits, word-is-fit}
 use Rattle.chunk_memory.specs.BeatLaws.{eight-of}
 use Rattle.chunk_memory.specs.Ports.{IsChunk, ArePortSizes}
 use Rattle.chunk_memory.specs.Ranges.{IsMappedRange}
-use Rattle.chunk_memory.specs.Reached.{ChunkReached, ChunkBegun, OneReaches, RefusedReaches, IsNoCommand, AsksSame}
+use Rattle.chunk_memory.specs.Reached.{OneReaches, RefusedReaches, IsNoCommand, AsksSame}
 use Rattle.chunk_memory.specs.Spelling.{IsPiece, StoresPiece, MergesPiece, SpellsRead, SpellsWrite, SpellsChunk, IsOneAccess, place_of, stored_at, stored_bytes, StoredFits}
 use Rattle.chunk_memory.specs.Transactions.{Chunk, ReadChunk, WriteChunk, begins_in_part, chunk_size, step_size, WholeStep, PartStep, WriteChunks, Made}
 use Rattle.chunk_memory.specs.declared.stops.PortStop.{PortStop}

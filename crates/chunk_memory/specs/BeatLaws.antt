@@ -1,18 +1,18 @@
 -- Chunks by beats as accesses.
-use Rattle.std.proofs.Common.{◌≡◌, true, ℕ, zero, suc, ◌+◌, ◌-◌, ◌*◌, ◌/◌, ◌%◌, ◌^◌, ◌<◌, ◌≤◌, List, [], ◌∷◌, ◌++◌, length, take, drop, replicate, length-append, length-drop, append_assoc, append-nil, refl, sym, ap, subst, ◌∙◌, arith, inl, inr}
+use Rattle.std.proofs.Common.{◌≡◌, true, ℕ, zero, suc, ◌+◌, ◌-◌, ◌*◌, ◌/◌, ◌%◌, ◌^◌, ◌<◌, ◌≤◌, List, [], ◌∷◌, ◌++◌, length, take, drop, replicate, length-append, append_assoc, refl, sym, ap, subst, ◌∙◌, arith, inr}
 use Rattle.std.specs.Int.{to_le_bytes, w64}
 use Rattle.std.specs.Prelude.{IsTrue, Bool, ◌==◌, ◌&&◌}
 use Rattle.std.proofs.lemmas.Bool.Decides.{nat_tests}
 use Rattle.std.proofs.lemmas.List.{length-replicate, take_at, drop_at, take_all}
 use Rattle.fe_base.specs.Access.{Access, Loaded, Stored}
-use Rattle.fe_base.specs.Beats.{Beat, ReadBeat, WriteBeat, IsBeat, beat_access, BeatTurned, BeatLaw}
+use Rattle.fe_base.specs.Beats.{Beat, ReadBeat, WriteBeat, IsBeat, beat_access, BeatLaw}
 use Rattle.fe_base.specs.MemoryMap.{is_mapped, is_beat}
-use Rattle.chunk_memory.specs.BeatChunks.{bytes_of, AreDoublewords, BeatsRead, BeatsWritten, ReadByBeats, WrittenByBeats, DirectOne, BeatStopped, ReadByBeatsUntil, WrittenByBeatsUntil, DirectRefused}
-use Rattle.chunk_memory.specs.Ports.{IsChunk, ArePortSizes}
-use Rattle.chunk_memory.specs.Ranges.{Meets, IsMappedRange}
-use Rattle.chunk_memory.specs.Reached.{Reached, ChunkReached, ChunkBegun, OneReaches, RefusedReaches, IsNoCommand}
+use Rattle.chunk_memory.specs.BeatChunks.{bytes_of, AreDoublewords, BeatsRead, BeatsWritten, DirectOne, DirectRefused}
+use Rattle.chunk_memory.specs.Ports.{ArePortSizes}
+use Rattle.chunk_memory.specs.Ranges.{IsMappedRange}
+use Rattle.chunk_memory.specs.Reached.{Reached, ChunkBegun, OneReaches, RefusedReaches, IsNoCommand}
 use Rattle.chunk_memory.specs.Spelling.{IsPiece, LoadsPiece, StoresPiece, SpellsRead, SpellsWrite}
-use Rattle.chunk_memory.specs.Transactions.{Chunk, ReadChunk, WriteChunk}
+use Rattle.chunk_memory.specs.Transactions.{ReadChunk, WriteChunk}
 use Rattle.chunk_memory.specs.declared.stops.PortStop.{PortStop}
 use Rattle.chunk_memory.specs.declared.stops.PortStop.TheVariants.{Spent, WireFault, CmdErr}
 

@@ -1,5 +1,5 @@
 -- What a call of a port, or of memory over a port, says.
-use Rattle.std.specs.Prelude.{◌≡◌, ◌≤◌, ◌<◌, ◌+◌, ◌%◌, ◌⊎◌, ◌↔◌, ℕ, List, length, Option, Some, None, Result, Ok, Err, IsErrOf}
+use Rattle.std.specs.Prelude.{◌≡◌, ◌≤◌, ◌<◌, ◌+◌, ◌%◌, ◌⊎◌, ◌↔◌, ℕ, List, Option, Some, Result, Ok, Err}
 use Rattle.std.specs.Int.{to_le_bytes, w64}
 use Rattle.fe_base.specs.Outside.{Rose}
 use Rattle.chunk_memory.specs.Ranges.{IsMappedRange, IsFirstUnmapped}

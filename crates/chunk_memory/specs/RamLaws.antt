@@ -1,7 +1,7 @@
 -- The laws of a port to a bus.
 use Rattle.std.proofs.Common.{◌≡◌, ℕ, ◌+◌, true, refl, sym, ap, ◌∙◌}
 use Rattle.std.specs.Prelude.{Some, unwrap_or}
-use Rattle.fe_base.specs.Beats.{Beat, ReadBeat, WriteBeat}
+use Rattle.fe_base.specs.Beats.{ReadBeat, WriteBeat}
 use Rattle.fe_base.specs.MemoryMap.{is_beat}
 use Rattle.guest_memory.specs.Bus.{BusState, beat, with_beat}
 use Rattle.chunk_memory.specs.BeatChunks.{DirectOne}

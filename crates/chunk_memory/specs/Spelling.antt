@@ -4,8 +4,6 @@ use Rattle.std.specs.Int.{to_le_bytes, w32, w64}
 use Rattle.fe_base.specs.Access.{Access, Loaded, Stored, StoredLow, StoredHigh}
 use Rattle.guest_memory.specs.Memory.{with_part}
 use Rattle.chunk_memory.specs.Transactions.{Chunk, ReadChunk, WriteChunk}
-use Rattle.chunk_memory.specs.declared.stops.PortStop.{PortStop}
-use Rattle.chunk_memory.specs.declared.stops.PortStop.TheVariants.{Spent as PortSpent, WireFault as PortFault, CmdErr as PortError}
 use Rattle.chunk_memory.specs.declared.stops.MemStop.{MemStop}
 use Rattle.chunk_memory.specs.declared.stops.MemStop.TheVariants.{Unmapped, Spent, WireFault, CmdErr}
 

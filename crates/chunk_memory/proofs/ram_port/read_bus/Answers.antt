@@ -1,6 +1,5 @@
-use Rattle.std.proofs.Common.{◌≡◌, ◌≢◌, ℕ, ◌<◌, ◌^◌, List, length, subst, sym, ap, ◌∙◌, rules}
+use Rattle.std.proofs.Common.{◌≡◌, ℕ, ◌<◌, ◌^◌, List, length, subst, sym, ap, ◌∙◌, rules}
 use Rattle.std.specs.Prelude.{Option, unwrap_or}
-use Rattle.fe_base.specs.MemoryMap.{start_word}
 use Rattle.guest_memory.specs.Bus.{bus_bytes}
 use Rattle.chunk_memory.proofs.RamLemmas.{chunk-ram, ram-read, start-read}
 use Rattle.chunk_memory.proofs.WordLemmas.{AreSmall}

@@ -1,4 +1,4 @@
-use Rattle.std.proofs.Common.{◌≡◌, ℕ, ◌≤◌, List, length, take, sym, ap, subst, ◌∙◌, arith, rules}
+use Rattle.std.proofs.Common.{◌≡◌, ℕ, List, length, take, sym, ap, subst, ◌∙◌, arith, rules}
 use Rattle.std.proofs.lemmas.List.{take_all}
 use Rattle.guest_memory.specs.Bus.{bus_bytes, with_bus_bytes}
 use Rattle.chunk_memory.proofs.RamLemmas.{chunk-ram, ram-write, start-write}

@@ -1,4 +1,4 @@
-use Rattle.std.proofs.Common.{◌≡◌, ℕ, List, length, Result, Ok, Err, sym, subst, rules}
+use Rattle.std.proofs.Common.{ℕ, List, length, Ok, Err, sym, subst, rules}
 use Rattle.fe_base.specs.Wires.{OnTold}
 use Rattle.chunk_memory.proofs.RangeSpelled.{read-spelled, read-refused-spelled}
 use Rattle.chunk_memory.proofs.ToldLemmas.{told-valid}

@@ -2,14 +2,14 @@ use Rattle.chunk_memory.specs.Turns.{read_turns, read_step}
 use Rattle.chunk_memory.specs.Ranges.{IsMappedRange}
 use Rattle.chunk_memory.proofs.TurnSteps.{read-calm}
 use Rattle.chunk_memory.proofs.TurnLemmas.{turns-step}
-use Rattle.std.proofs.Common.{◌≡◌, ℕ, ◌+◌, ◌-◌, ◌<◌, List, length, drop, length-drop, Result, Ok, Err, None, refl, sym, ap, subst, ◌∙◌, arith, ◌≤◌, take, Some}
+use Rattle.std.proofs.Common.{◌≡◌, ℕ, ◌+◌, ◌-◌, ◌<◌, List, length, drop, length-drop, Result, Ok, Err, None, sym, ap, subst, ◌∙◌, arith, take}
 use Rattle.std.proofs.lemmas.List.{take_rest}
 use Rattle.std.proofs.lemmas.Result.{err_from_is_err_and}
 use Rattle.fe_base.specs.Wires.{OnTold}
 use Rattle.chunk_memory.proofs.SizeLemmas.{mapped-byte, mapped-rest}
 use Rattle.chunk_memory.proofs.StepLemmas.{ReadSoFar, read-on, read-off, read-end, put-size}
-use Rattle.chunk_memory.proofs.ToldLemmas.{told-as, told-then, causes-then, steady-then, told-same, told-valid, told-next}
-use Rattle.chunk_memory.specs.Ports.{with_bytes, CostsAtMost}
+use Rattle.chunk_memory.proofs.ToldLemmas.{told-as, told-then, causes-then, steady-then, told-valid, told-next}
+use Rattle.chunk_memory.specs.Ports.{with_bytes}
 use Rattle.chunk_memory.specs.Steps.{ReadNext}
 use Rattle.chunk_memory.specs.Transactions.{Reads, step_size}
 use Rattle.chunk_memory.specs.declared.stops.PortStop.{PortStop}

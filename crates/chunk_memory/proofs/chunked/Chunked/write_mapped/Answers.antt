@@ -1,15 +1,14 @@
 use Rattle.chunk_memory.specs.Turns.{write_turns, write_step}
 use Rattle.chunk_memory.specs.Ranges.{IsMappedRange}
-use Rattle.chunk_memory.specs.Ports.{CostsAtMost}
 use Rattle.chunk_memory.proofs.TurnSteps.{write-calm}
 use Rattle.chunk_memory.proofs.TurnLemmas.{turns-step}
-use Rattle.std.proofs.Common.{◌≡◌, ℕ, ◌+◌, ◌-◌, ◌<◌, List, length, take, drop, length-drop, Result, Ok, Err, None, refl, sym, ap, subst, ◌∙◌, arith, ◌≤◌, Some}
+use Rattle.std.proofs.Common.{◌≡◌, ℕ, ◌+◌, ◌-◌, ◌<◌, List, length, take, drop, length-drop, Result, Ok, Err, None, refl, sym, ap, subst, ◌∙◌, arith}
 use Rattle.std.proofs.lemmas.List.{take_rest}
 use Rattle.std.proofs.lemmas.Result.{err_from_is_err_and}
 use Rattle.fe_base.specs.Wires.{OnTold}
 use Rattle.chunk_memory.proofs.SizeLemmas.{mapped-byte, mapped-rest}
 use Rattle.chunk_memory.proofs.StepLemmas.{WriteSoFar, write-on, write-off, write-end}
-use Rattle.chunk_memory.proofs.ToldLemmas.{told-as, told-then, causes-then, steady-then, told-same, told-valid, told-next}
+use Rattle.chunk_memory.proofs.ToldLemmas.{told-as, told-then, causes-then, steady-then, told-valid, told-next}
 use Rattle.chunk_memory.specs.Steps.{WriteNext}
 use Rattle.chunk_memory.specs.Transactions.{Writes, step_size}
 use Rattle.chunk_memory.specs.declared.stops.PortStop.{PortStop}

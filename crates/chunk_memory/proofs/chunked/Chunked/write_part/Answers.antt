@@ -1,15 +1,15 @@
 use Rattle.chunk_memory.specs.Turns.{write_step}
 use Rattle.chunk_memory.proofs.TurnLemmas.{write_step-part}
 use Rattle.chunk_memory.specs.Ports.{Counts, IsChunk}
-use Rattle.std.proofs.Common.{◌≡◌, ℕ, ◌+◌, ◌-◌, ◌%◌, min, List, [], ◌∷◌, ◌++◌, length, take, drop, length-take, length-drop, Option, Result, Ok, Err, refl, sym, ap, subst, ◌∙◌, arith, Some}
+use Rattle.std.proofs.Common.{◌≡◌, ℕ, ◌+◌, ◌-◌, ◌%◌, min, List, [], ◌∷◌, length, take, length-take, Option, Result, Ok, Err, refl, sym, ap, subst, ◌∙◌, arith, Some}
 use Rattle.std.proofs.lemmas.Result.{err_from_is_err_and}
 use Rattle.fe_base.specs.Wires.{OnTold}
 use Rattle.guest_memory.specs.Memory.{with_part}
-use Rattle.chunk_memory.proofs.SizeLemmas.{step_size-part, unit-bounds, chunk_size-part, chunk-part}
+use Rattle.chunk_memory.proofs.SizeLemmas.{step_size-part, unit-bounds, chunk-part}
 use Rattle.chunk_memory.proofs.StepLemmas.{part-step, cut-first, cut-behind}
 use Rattle.chunk_memory.proofs.ToldLemmas.{told-as, told-then, told-next, if-told}
 use Rattle.chunk_memory.specs.Steps.{WriteNext}
-use Rattle.chunk_memory.specs.Transactions.{ReadChunk, WriteChunk, step_size, chunk_size}
+use Rattle.chunk_memory.specs.Transactions.{ReadChunk, WriteChunk, step_size}
 use Rattle.chunk_memory.specs.declared.stops.PortStop.{PortStop}
 use Rattle.chunk_memory.proofs.chunked.Chunked.write_part.Goals as goal
 

@@ -1,4 +1,4 @@
-use Rattle.std.proofs.Common.{◌≡◌, ℕ, List, length, ap, subst}
+use Rattle.std.proofs.Common.{ℕ, List, length, ap, subst}
 use Rattle.std.specs.Result.{result_err}
 use Rattle.chunk_memory.specs.Ports.{Maps}
 use Rattle.chunk_memory.proofs.chunked.Chunked.write_u64.Goals as goal

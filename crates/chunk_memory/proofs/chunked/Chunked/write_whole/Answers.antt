@@ -2,7 +2,7 @@ use Rattle.chunk_memory.specs.Turns.{write_step}
 use Rattle.chunk_memory.proofs.TurnLemmas.{write_step-whole}
 use Rattle.chunk_memory.specs.Ports.{CostsAtMost, Counts}
 use Rattle.std.proofs.lemmas.List.{length-take-le}
-use Rattle.std.proofs.Common.{◌≡◌, ℕ, ◌*◌, ◌/◌, min, List, [], ◌∷◌, ◌++◌, length, take, Option, Result, Ok, Err, refl, sym, ap, subst, ◌∙◌, arith}
+use Rattle.std.proofs.Common.{◌≡◌, ℕ, ◌*◌, ◌/◌, min, List, [], ◌∷◌, length, take, Option, Result, Ok, Err, refl, sym, ap, subst, ◌∙◌, arith}
 use Rattle.std.proofs.lemmas.Result.{err_from_is_err_and}
 use Rattle.chunk_memory.proofs.SizeLemmas.{step_size-whole, step-fits, chunk_size-whole}
 use Rattle.chunk_memory.proofs.StepLemmas.{whole-step, cut-first}
