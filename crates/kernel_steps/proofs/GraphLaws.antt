@@ -10,7 +10,7 @@ use Rattle.rv_decode.specs.declared.instruction.Insn.{Insn}
 use Rattle.rv_hart.specs.HartStep.{System, AreRegisters, hart_step}
 use Rattle.guest_memory.specs.Memory.{load}
 use Rattle.kernel_steps.specs.Terms.{Term, Lit, Var, Bin, Aligned, Unknown, value, Is, AllIs, CellsAre, Fact, compared, FactsHold}
-use Rattle.kernel_steps.specs.States.{Code, CsrTerms, CsrsAre, State, Describes, OneDescribes}
+use Rattle.kernel_steps.specs.States.{CsrTerms, CsrsAre, State, Describes, OneDescribes}
 use Rattle.kernel_steps.specs.Successors.{and_then, successors_of, successors, fetch}
 use Rattle.kernel_steps.specs.Blocks.{StepsAreSuccessors, BlocksLead, op_number, same, weaker, all_weaker, same_bool, same_fact, has_fact, all_facts, same_entry, same_pmp, weaker_csrs, implies, Block, test, lone, step_at, fits, covered, all_covered, runs_well, After, OnRun, IsLast, Among, Here, Enters, all_well, Moves, Stays, Goes_to, Left_open, first_bad}
 use Rattle.kernel_steps.proofs.Soundness.{leads}
@@ -136,7 +136,7 @@ all_facts-hold : (env : ℕ → ℕ) (fs gs : List Fact) → all_facts fs gs ≡
 all_facts-hold env fs [] e h = tt
 all_facts-hold env fs (g ∷ gs) e h = (has_fact-holds env g fs (then-l _ _ e) h, all_facts-hold env fs gs (then-r (has_fact g fs) _ e) h)
 
-module _ (code : Code) (user : List ℕ) (env : ℕ → ℕ) where
+module _ (code : List Insn) (user : List ℕ) (env : ℕ → ℕ) where
   pub implies-Describes : (s t : State) (sys : System) → implies s t ≡ true → Describes code user env s sys → Describes code user env t sys
   implies-Describes s t sys e m =
       let r1 = then-r (s.at == t.at) _ e in
@@ -244,7 +244,7 @@ module _ (code : Code) (user : List ℕ) (env : ℕ → ℕ) where
           go (Open p r) = Left_open p r
 
 -- ---- the test by parts
-well-of : (may : ℕ → ℕ → Bool) (code : Code) (bs more : List Block) → first_bad may code bs more ≡ None → all_well may code bs more ≡ true
+well-of : (may : ℕ → ℕ → Bool) (code : List Insn) (bs more : List Block) → first_bad may code bs more ≡ None → all_well may code bs more ≡ true
 well-of may code bs [] e = refl
 well-of may code bs (b ∷ more) e = go (runs_well may code b.kind bs b.checked b.size b.start) e (well-of may code bs more)
   where
@@ -253,7 +253,7 @@ well-of may code bs (b ∷ more) e = go (runs_well may code b.kind bs b.checked 
     go true p f = f p
     go false p f = cc
 
-pub well-parts : (may : ℕ → ℕ → Bool) (code : Code) (bs xs ys : List Block) → first_bad may code bs xs ≡ None → all_well may code bs ys ≡ true → all_well may code bs (xs ++ ys) ≡ true
+pub well-parts : (may : ℕ → ℕ → Bool) (code : List Insn) (bs xs ys : List Block) → first_bad may code bs xs ≡ None → all_well may code bs ys ≡ true → all_well may code bs (xs ++ ys) ≡ true
 well-parts may code bs [] ys e f = f
 well-parts may code bs (b ∷ xs) ys e f = go (runs_well may code b.kind bs b.checked b.size b.start) e (λ p. well-parts may code bs xs ys p f)
   where
@@ -262,7 +262,7 @@ well-parts may code bs (b ∷ xs) ys e f = go (runs_well may code b.kind bs b.ch
     go true p g = g p
     go false p g = cc
 
-pub well-last : (may : ℕ → ℕ → Bool) (code : Code) (bs xs : List Block) → first_bad may code bs xs ≡ None → all_well may code bs xs ≡ true
+pub well-last : (may : ℕ → ℕ → Bool) (code : List Insn) (bs xs : List Block) → first_bad may code bs xs ≡ None → all_well may code bs xs ≡ true
 well-last may code bs xs e = well-of may code bs xs e
 
 -- ---- the two laws

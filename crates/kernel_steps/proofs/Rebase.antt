@@ -8,7 +8,8 @@ use Rattle.rv_csr.specs.Fields.{instruction_aligned}
 use Rattle.rv_hart.specs.HartStep.{System}
 use Rattle.guest_memory.specs.Memory.{load}
 use Rattle.kernel_steps.specs.Terms.{Term, Lit, Var, Bin, Aligned, Unknown, value, Is, AllIs, CellsAre, Fact, compared, FactsHold}
-use Rattle.kernel_steps.specs.States.{Code, CsrTerms, CsrsAre, State, Describes}
+use Rattle.kernel_steps.specs.States.{CsrTerms, CsrsAre, State, Describes}
+use Rattle.rv_decode.specs.declared.instruction.Insn.{Insn}
 
 abbrev pub with_var : (ℕ → ℕ) → ℕ → ℕ → (ℕ → ℕ)
 with_var env n v = λ k. if k == n then v else env k
@@ -104,7 +105,7 @@ module _ (env : ℕ → ℕ) (n v : ℕ) where
       go false = h m
 
   -- a variable that the state does not use is given a number
-  pub fresh : (code : Code) (user : List ℕ) (s : State) (sys : System) → state_avoids n s ≡ true → v < 2 ^ 64 → Describes code user env s sys → Describes code user (with_var env n v) s sys
+  pub fresh : (code : List Insn) (user : List ℕ) (s : State) (sys : System) → state_avoids n s ≡ true → v < 2 ^ 64 → Describes code user env s sys → Describes code user (with_var env n v) s sys
   fresh code user s sys e l m =
       let p = and_parts _ _ e in
       let a = and_parts _ _ p.0 in
@@ -132,10 +133,10 @@ cells-learn env (s ∷ ss) m a zero b v e h p = let k : b ≡ a = omega arith in
 cells-learn env (s ∷ ss) m a (suc i) b v e h p = (h.0, cells-learn env ss m (a + 8) i b v (omega arith) h.1 p)
 
 -- a register's, and a cell's number becomes known
-pub learn_reg : (code : Code) (user : List ℕ) (env : ℕ → ℕ) (s : State) (sys : System) (n : ℕ) (v : Term) → Is env v (get_or sys.hart.registers n 0) → Describes code user env s sys → Describes code user env (record s { regs = set s.regs n v }) sys
+pub learn_reg : (code : List Insn) (user : List ℕ) (env : ℕ → ℕ) (s : State) (sys : System) (n : ℕ) (v : Term) → Is env v (get_or sys.hart.registers n 0) → Describes code user env s sys → Describes code user env (record s { regs = set s.regs n v }) sys
 learn_reg code user env s sys n v p m = record { run = m.run; mode = m.mode; at = m.at; regs = all-learn env s.regs sys.hart.registers n v m.regs p; csrs = m.csrs; memory = m.memory; facts = m.facts; small = m.small }
 
-pub learn_cell : (code : Code) (user : List ℕ) (env : ℕ → ℕ) (s : State) (sys : System) (i b : ℕ) (v : Term) → b ≡ kernel_code_size + 8 * i → Is env v (load sys.bus.kernel b 8) → Describes code user env s sys → Describes code user env (record s { cells = set s.cells i v }) sys
+pub learn_cell : (code : List Insn) (user : List ℕ) (env : ℕ → ℕ) (s : State) (sys : System) (i b : ℕ) (v : Term) → b ≡ kernel_code_size + 8 * i → Is env v (load sys.bus.kernel b 8) → Describes code user env s sys → Describes code user env (record s { cells = set s.cells i v }) sys
 learn_cell code user env s sys i b v e p m = record {
   run = m.run;
   mode = m.mode;
@@ -148,5 +149,5 @@ learn_cell code user env s sys i b v e p m = record {
 }
 
 -- a fact becomes known
-pub learn_fact : (code : Code) (user : List ℕ) (env : ℕ → ℕ) (s : State) (sys : System) (f : Fact) → compared f.below (value env f.left) (value env f.right) ≡ f.truth → Describes code user env s sys → Describes code user env (record s { facts = f ∷ s.facts }) sys
+pub learn_fact : (code : List Insn) (user : List ℕ) (env : ℕ → ℕ) (s : State) (sys : System) (f : Fact) → compared f.below (value env f.left) (value env f.right) ≡ f.truth → Describes code user env s sys → Describes code user env (record s { facts = f ∷ s.facts }) sys
 learn_fact code user env s sys f p m = record { run = m.run; mode = m.mode; at = m.at; regs = m.regs; csrs = m.csrs; memory = m.memory; facts = (p, m.facts); small = m.small }

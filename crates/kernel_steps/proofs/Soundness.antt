@@ -1,8 +1,9 @@
 -- A step of the hart is what its symbolic step says.
 use Rattle.std.proofs.Common.{◌≡◌, ℕ, zero, suc, ◌+◌, ◌-◌, ◌*◌, ◌/◌, ◌%◌, ◌^◌, ◌<◌, ◌≤◌, ◌==◌, ◌&&◌, inl, inr, not, nat_lt, Bool, true, false, Option, Some, None, if◌then◌else◌, List, [], ◌∷◌, length, get_or, set, refl, ap, sym, subst, ◌∙◌, arith}
-use Rattle.std.specs.Prelude.{⊤, nat_le, slice_get, slice_index, slice_set}
+use Rattle.std.specs.Prelude.{⊤, nat_le, slice_get, slice_set}
 use Rattle.std.proofs.lemmas.Bool.{false≢true, and_parts, eqb-true}
 use Rattle.std.proofs.lemmas.Bool.Decides.{nat_tests}
+use Rattle.std.proofs.lemmas.Option.{slice_get_within}
 use Rattle.fe_base.specs.MemoryMap.{kernel_start, kernel_end, kernel_code_size}
 use Rattle.rv_decode.specs.declared.instruction.Insn.{Insn}
 use Rattle.rv_decode.specs.declared.instruction.Insn.TheVariants.{Lui, Auipc, Jal, Jalr, Beq, Bne, Bltu, Bgeu, Ld, Sd, Addi, Sltiu, Andi, Slli, Srli, Add, Sub, Srl, Csrrw, Csrrs}
@@ -35,7 +36,7 @@ use Rattle.rv_hart.specs.HartStep.{System, AreRegisters, over, after_step, effec
 use Rattle.rv_alu.specs.declared.causes.Cause.TheVariants.{FetchAccess}
 use Rattle.rv_hart.specs.declared.debug.Run.{Run}
 use Rattle.kernel_steps.specs.Terms.{Term, Lit, Var, Bin, Aligned, Unknown, value, Is, is_known, if_known, adds_zero, bin_of, combine, aligned_term, AllIs, CellsAre, Fact, compared, FactsHold}
-use Rattle.kernel_steps.specs.States.{Code, CsrTerms, State, CodeIs, CsrsAre, Describes, OneDescribes}
+use Rattle.kernel_steps.specs.States.{CsrTerms, State, CodeIs, CsrsAre, Describes, OneDescribes}
 use Rattle.kernel_steps.specs.Successors.{vector_term, data_start, put_term, reg, next_at, Action, Puts, Jumps, Forks, Loads, Stores, Swaps, Reads, jump_to, read_csr, action_of, cell_no, is_cell, only, load_into, store_from, flip, learn, fork_by, fork_from, get_csr, set_lit, set_by, set_csr, put_old, swap_csr, read_into, guarded, after_action, and_then, successors_of, fetch}
 
 -- ---- terms
@@ -138,13 +139,13 @@ CellsAre-set env (t ∷ ss) m a (suc i) b s v e r l h p =
     let before : a + 8 ≤ b = omega arith in
     (subst (Is env t) (sym (stores_leave m b 8 v a 8 r (inl before))) h.0, CellsAre-set env ss m (a + 8) i b s v (omega arith) r l h.1 p)
 
-pub CodeIs-store : (code : Code) (m : List ℕ) (at v : ℕ) → kernel_code_size ≤ at → at + 8 ≤ length m → CodeIs code m → CodeIs code (store m at 8 v)
+pub CodeIs-store : (code : List Insn) (m : List ℕ) (at v : ℕ) → kernel_code_size ≤ at → at + 8 ≤ length m → CodeIs code m → CodeIs code (store m at 8 v)
 CodeIs-store code m at v low room c = record {
   short = c.short;
-  stand = λ k n.
+  words = λ k i e.
+      let n : k < length code = slice_get_within code k i e in
       let before : 4 * k + 4 ≤ at = omega (arith, c.short) in
-      stores_leave m at 8 v (4 * k) 4 room (inl before) ∙ c.stand k n;
-  decode = c.decode;
+      rw (stores_leave m at 8 v (4 * k) 4 room (inl before)) (c.words k i e);
 }
 
 -- ---- what a hart reaches in the kernel area
@@ -195,7 +196,7 @@ set-right env c v x t csrs p h = by-right env c v x t csrs p h
 abbrev pub carried : Effect → ℕ → ℕ → System → System
 carried effect bits after system = after_step system (effect_step effect bits after system)
 
-module _ (code : Code) (user : List ℕ) (env : ℕ → ℕ) (s : State) (sys : System) (m : Describes code user env s sys) (fit : AreRegisters sys.hart.registers) where
+module _ (code : List Insn) (user : List ℕ) (env : ℕ → ℕ) (s : State) (sys : System) (m : Describes code user env s sys) (fit : AreRegisters sys.hart.registers) where
   abbrev pub after : ℕ
   after = (sys.hart.pc + 4) % 2 ^ 64
 
@@ -441,26 +442,108 @@ module _ (code : Code) (user : List ℕ) (env : ℕ → ℕ) (s : State) (sys : 
   unfolding instruction_step
   executed i free is = ap (λ (refused : Option ℕ). after_step sys (unless refused FetchAccess (insn_step (insn_of (word_at sys)) (word_at sys) 4 sys))) free ∙ ap (λ (insn : Option Insn). after_step sys (insn_step insn (word_at sys) 4 sys)) is
 
-  fetched-at : (i : Insn) (k : ℕ) → s.at ≡ kernel_start + 4 * k → slice_get code.instructions k ≡ Some i → hart_step sys ≡ carried (effect_of i sys.hart.pc sys.hart.registers) (word_at sys) after sys
+  fetched-at : (i : Insn) (k : ℕ) → s.at ≡ kernel_start + 4 * k → slice_get code k ≡ Some i → hart_step sys ≡ carried (effect_of i sys.hart.pc sys.hart.registers) (word_at sys) after sys
   fetched-at i k place e =
-      let c = m.memory.code_is in
-      let d = c.decode k i e in
-      let short = c.short in
-      let n : k < length code.words = d.0 in
+      let n : k < length code = slice_get_within code k i e in
+      let short = m.memory.code_is.short in
       let here = m.at in
       let low : kernel_start ≤ sys.hart.pc = omega arith in
       let high : sys.hart.pc + 4 ≤ kernel_end = omega arith in
       let at : sys.hart.pc - kernel_start ≡ 4 * k = omega arith in
-      let word : word_at sys ≡ slice_index code.words k = kernel-load sys.bus sys.hart.pc 4 (omega arith) low high ∙ ap (λ z. load sys.bus.kernel z 4) at ∙ c.stand k n in
-      begun ∙ executed i (reach Execute sys.hart.pc 4 (omega arith) (omega arith) low high) (ap insn_of word ∙ d.1)
+      let word : word_at sys ≡ load sys.bus.kernel (4 * k) 4 = kernel-load sys.bus sys.hart.pc 4 (omega arith) low high ∙ ap (λ z. load sys.bus.kernel z 4) at in
+      begun ∙ executed i (reach Execute sys.hart.pc 4 (omega arith) (omega arith) low high) (ap insn_of word ∙ m.memory.code_is.words k i e)
 
   pub fetched : (i : Insn) → fetch code s.at ≡ Some i → hart_step sys ≡ carried (effect_of i sys.hart.pc sys.hart.registers) (word_at sys) after sys
   fetched i e = go (s.at == kernel_start + 4 * ((s.at - kernel_start) / 4)) refl e
     where
-      go : (b : Bool) → (s.at == kernel_start + 4 * ((s.at - kernel_start) / 4)) ≡ b → (if b then slice_get code.instructions ((s.at - kernel_start) / 4) else None) ≡ Some i
+      go : (b : Bool) → (s.at == kernel_start + 4 * ((s.at - kernel_start) / 4)) ≡ b → (if b then slice_get code ((s.at - kernel_start) / 4) else None) ≡ Some i
           → hart_step sys ≡ carried (effect_of i sys.hart.pc sys.hart.registers) (word_at sys) after sys
       go false p q = cc
       go true p q = fetched-at i ((s.at - kernel_start) / 4) (eqb-true _ _ p) q
 
   pub leads : (i : Insn) (ts : List State) → fetch code s.at ≡ Some i → successors_of i s ≡ Some ts → OneDescribes code user env ts (hart_step sys)
   leads i ts e q = subst (OneDescribes code user env ts) (sym (fetched i e)) (subst (λ o. OneOf o (carried (effect_of i sys.hart.pc sys.hart.registers) (word_at sys) after sys)) q (next-right (word_at sys) (action_of i s) _ (action-right i)))
+
+  -- ---- what stands before the data stays
+  abbrev pub SameCode : System → Type 0
+  SameCode t = (at width : ℕ) → at + width ≤ kernel_code_size → load t.bus.kernel at width ≡ load sys.bus.kernel at width
+
+  abbrev CodeOf : Option (List State) → System → Type 0
+  CodeOf None t = ⊤
+  CodeOf (Some ts) t = SameCode t
+
+  same-bus : (t z : System) → t ≡ z → z.bus ≡ sys.bus → SameCode t
+  same-bus t z e b at width l = ap (λ y. load y.bus.kernel at width) e ∙ ap (λ y. load y.kernel at width) b
+
+  jump-code : (bits : ℕ) (even4 : Bool) (rd target : ℕ) (t : State) → (target % instruction_alignment == 0) ≡ even4 → CodeOf (only even4 t) (carried (eff.Jump rd target) bits after sys)
+  unfolding effect_step
+  jump-code bits false rd target t e = tt
+  jump-code bits true rd target t e = rw e (λ at width l. refl)
+
+  branch-code : (bits target : ℕ) (even4 c : Bool) (ts : List State) → (target % instruction_alignment == 0) ≡ even4 → CodeOf (guarded even4 ts) (carried (branch c target) bits after sys)
+  branch-code bits target false c ts e = tt
+  branch-code bits target true c ts e = same-bus _ _ (branches bits target c e) refl
+
+  load-in-code : (bits rd x a : ℕ) (t : State) (c : Bool) → is_cell a ≡ c → x ≡ a → CodeOf (only c t) (carried (eff.Load rd size.Double false x) bits after sys)
+  load-in-code bits rd x a t false e p = tt
+  load-in-code bits rd x a t true e p =
+      let both = and_parts (nat_le (a + 8) kernel_end) (a == data_start + 8 * cell_no a) e in
+      let place : a ≡ data_start + 8 * cell_no a = eqb-true _ _ both.1 in
+      let high : x + 8 ≤ kernel_end = grind (arith, nat_tests) in
+      same-bus _ _ (loads bits rd x (omega arith) high) refl
+
+  load-code : (bits rd : ℕ) (a : Term) (x : ℕ) → Is env a x → CodeOf (load_into s rd a) (carried (eff.Load rd size.Double false x) bits after sys)
+  load-code bits rd (Lit a) x p = load-in-code bits rd x a _ (is_cell a) refl p
+  load-code bits rd (Var a) x p = tt
+  load-code bits rd (Bin o a b) x p = tt
+  load-code bits rd (Aligned a) x p = tt
+  load-code bits rd Unknown x p = tt
+
+  store-in-code : (bits x a y : ℕ) (t : State) (c : Bool) → is_cell a ≡ c → x ≡ a → CodeOf (only c t) (carried (eff.Store size.Double x y) bits after sys)
+  store-in-code bits x a y t false e p = tt
+  store-in-code bits x a y t true e p =
+      let both = and_parts (nat_le (a + 8) kernel_end) (a == data_start + 8 * cell_no a) e in
+      let place : a ≡ data_start + 8 * cell_no a = eqb-true _ _ both.1 in
+      let high : x + 8 ≤ kernel_end = grind (arith, nat_tests) in
+      let low : kernel_start ≤ x = omega arith in
+      let long = m.memory.long in
+      let room : x - kernel_start + 8 ≤ length sys.bus.kernel = omega arith in
+      let behind : kernel_code_size ≤ x - kernel_start = omega arith in
+      λ at width l. ap (λ z. load z.bus.kernel at width) (stores bits x y low high) ∙ stores_leave sys.bus.kernel (x - kernel_start) 8 y at width room (inl (omega arith))
+
+  store-code : (bits : ℕ) (a v : Term) (x y : ℕ) → Is env a x → CodeOf (store_from s a v) (carried (eff.Store size.Double x y) bits after sys)
+  store-code bits (Lit a) v x y p = store-in-code bits x a y _ (is_cell a) refl p
+  store-code bits (Var a) v x y p = tt
+  store-code bits (Bin o a b) v x y p = tt
+  store-code bits (Aligned a) v x y p = tt
+  store-code bits Unknown v x y p = tt
+
+  put-code : (rd : ℕ) (old : Term) (o : Option CsrTerms) (t z : System) → t ≡ z → z.bus ≡ sys.bus → CodeOf (put_old s rd old o) t
+  put-code rd old (Some c) t z e b = same-bus t z e b
+  put-code rd old None t z e b = tt
+
+  swap-code : (bits rd csr : ℕ) (ro : Bool) (o : Option Csr) (v : Term) (x : ℕ) → is_read_only csr ≡ ro → csr_of csr ≡ o → CodeOf (swap_csr ro o s rd v) (carried (eff.Csr rd csr csr_op.Write x true) bits after sys)
+  swap-code bits rd csr false (Some c) v x e f = put-code rd (get_csr c s.csrs) (set_csr c v s.csrs) _ _ (swaps bits rd csr x c e f) refl
+  swap-code bits rd csr false None v x e f = tt
+  swap-code bits rd csr true o v x e f = tt
+
+  read-code : (bits rd csr : ℕ) (o : Option Csr) (x : ℕ) → csr_of csr ≡ o → CodeOf (read_into o s rd) (carried (eff.Csr rd csr csr_op.SetBits x false) bits after sys)
+  read-code bits rd csr (Some c) x f = same-bus _ _ (reads bits rd csr x c f) refl
+  read-code bits rd csr None x f = tt
+
+  action-code : (bits : ℕ) (d : Action) (e : Effect) → ActionIs d e → CodeOf (after_action d s) (carried e bits after sys)
+  unfolding effect_step
+  action-code bits (Puts rd v) e h = subst (λ z. CodeOf (after_action (Puts rd v) s) (carried z bits after sys)) (sym h.2) (λ at width l. refl)
+  action-code bits (Jumps rd target) e h = subst (λ z. CodeOf (after_action (Jumps rd target) s) (carried z bits after sys)) (sym h) (jump-code bits (target % instruction_alignment == 0) rd target _ refl)
+  action-code bits (Forks d a b negated target) e h = subst (λ z. CodeOf (after_action (Forks d a b negated target) s) (carried z bits after sys)) (sym h.4) (branch-code bits target (target % instruction_alignment == 0) _ _ refl)
+  action-code bits (Loads rd a) e h = subst (λ z. CodeOf (load_into s rd a) (carried z bits after sys)) (sym h.2) (load-code bits rd a h.0 h.1)
+  action-code bits (Stores a v) e h = subst (λ z. CodeOf (store_from s a v) (carried z bits after sys)) (sym h.5) (store-code bits a v h.0 h.1 h.2)
+  action-code bits (Swaps rd csr v) e h = subst (λ z. CodeOf (after_action (Swaps rd csr v) s) (carried z bits after sys)) (sym h.2) (swap-code bits rd csr (is_read_only csr) (csr_of csr) v h.0 refl refl)
+  action-code bits (Reads rd csr) e h = subst (λ z. CodeOf (after_action (Reads rd csr) s) (carried z bits after sys)) (sym h.1) (read-code bits rd csr (csr_of csr) h.0 refl)
+
+  next-code : (bits : ℕ) (o : Option Action) (e : Effect) → ActionOf o e → CodeOf (and_then o (λ d. after_action d s)) (carried e bits after sys)
+  next-code bits None e h = tt
+  next-code bits (Some d) e h = action-code bits d e h
+
+  pub keeps-code : (i : Insn) (ts : List State) → fetch code s.at ≡ Some i → successors_of i s ≡ Some ts → SameCode (hart_step sys)
+  keeps-code i ts e q = subst SameCode (sym (fetched i e)) (subst (λ o. CodeOf o (carried (effect_of i sys.hart.pc sys.hart.registers) (word_at sys) after sys)) q (next-code (word_at sys) (action_of i s) _ (action-right i)))

@@ -6,8 +6,9 @@ use Rattle.rv_csr.specs.Pmp.{PmpState}
 use Rattle.rv_csr.specs.declared.pmp.PmpEntry.{PmpEntry}
 use Rattle.rv_hart.specs.HartStep.{System, AreRegisters, hart_step}
 use Rattle.kernel_steps.specs.Terms.{Term, Lit, Var, Bin, Aligned, Unknown, Fact}
-use Rattle.kernel_steps.specs.States.{CsrTerms, State, Code, Describes, OneDescribes}
+use Rattle.kernel_steps.specs.States.{CsrTerms, State, Describes, OneDescribes}
 use Rattle.kernel_steps.specs.Successors.{successors}
+use Rattle.rv_decode.specs.declared.instruction.Insn.{Insn}
 
 -- a number for each operation, to compare them by
 abbrev pub op_number : AluOp → ℕ
@@ -98,7 +99,7 @@ lone (Some []) = None
 lone None = None
 
 -- the only state to which a step leads
-abbrev pub step_at : Code → State → Option State
+abbrev pub step_at : List Insn → State → Option State
 step_at code s = lone (successors code s)
 
 -- the state is one of a block whose kind may follow
@@ -116,7 +117,7 @@ all_covered may k bs [] = true
 all_covered may k bs (t ∷ ts) = elim (covered may k bs t) [ true ↦ all_covered may k bs ts | false ↦ false ]
 
 -- each step of a run from a state goes on, and the last one leads to blocks
-abbrev pub runs_well : (ℕ → ℕ → Bool) → Code → ℕ → List Block → Bool → ℕ → State → Bool
+abbrev pub runs_well : (ℕ → ℕ → Bool) → List Insn → ℕ → List Block → Bool → ℕ → State → Bool
 runs_well may code k bs true zero s = test (successors code s) (all_covered may k bs)
 runs_well may code k bs false zero s = true
 runs_well may code k bs c (suc n) s = test (step_at code s) (λ t. runs_well may code k bs c n t)
@@ -127,12 +128,12 @@ After (Some t) f = f t
 After None f = ⊥
 
 -- the last state is known at some place of the run from the first
-abbrev pub OnRun : Code → ℕ → State → State → Type 0
+abbrev pub OnRun : List Insn → ℕ → State → State → Type 0
 OnRun code zero s t = t ≡ s
 OnRun code (suc n) s t = (t ≡ s) ⊎ After (step_at code s) (λ z. OnRun code n z t)
 
 -- the last state is known at the last place of the run from the first
-abbrev pub IsLast : Code → ℕ → State → State → Type 0
+abbrev pub IsLast : List Insn → ℕ → State → State → Type 0
 IsLast code zero s t = t ≡ s
 IsLast code (suc n) s t = After (step_at code s) (λ z. IsLast code n z t)
 
@@ -142,7 +143,7 @@ Among b [] = ⊥
 Among b (c ∷ cs) = (b ≡ c) ⊎ Among b cs
 
 -- the hart is at some place of a block of this kind
-pub record Here (code : Code) (user : List ℕ) (env : ℕ → ℕ) (bs : List Block) (k : ℕ) (sys : System) : Type 0 where
+pub record Here (code : List Insn) (user : List ℕ) (env : ℕ → ℕ) (bs : List Block) (k : ℕ) (sys : System) : Type 0 where
   pub block : Block
   pub among : Among block bs
   pub kind : block.kind ≡ k
@@ -151,25 +152,25 @@ pub record Here (code : Code) (user : List ℕ) (env : ℕ → ℕ) (bs : List B
   pub describes : Describes code user env state sys
 
 -- the hart is at the start of a block whose kind may follow
-pub record Enters (may : ℕ → ℕ → Bool) (code : Code) (user : List ℕ) (env : ℕ → ℕ) (bs : List Block) (k : ℕ) (sys : System) : Type 0 where
+pub record Enters (may : ℕ → ℕ → Bool) (code : List Insn) (user : List ℕ) (env : ℕ → ℕ) (bs : List Block) (k : ℕ) (sys : System) : Type 0 where
   pub block : Block
   pub among : Among block bs
   pub goes : may k block.kind ≡ true
   pub describes : Describes code user env block.start sys
 
 -- each block of the list goes well
-abbrev pub all_well : (ℕ → ℕ → Bool) → Code → List Block → List Block → Bool
+abbrev pub all_well : (ℕ → ℕ → Bool) → List Insn → List Block → List Block → Bool
 all_well may code bs [] = true
 all_well may code bs (b ∷ more) = elim (runs_well may code b.kind bs b.checked b.size b.start) [ true ↦ all_well may code bs more | false ↦ false ]
 
 -- a step from a place of a block stays in its kind, goes into one that may follow it, or is left open
-pub data Moves (may : ℕ → ℕ → Bool) (code : Code) (user : List ℕ) (env : ℕ → ℕ) (bs : List Block) (k : ℕ) (b : Block) (u : State) (next : System) : Type 0 where
+pub data Moves (may : ℕ → ℕ → Bool) (code : List Insn) (user : List ℕ) (env : ℕ → ℕ) (bs : List Block) (k : ℕ) (b : Block) (u : State) (next : System) : Type 0 where
   Stays : Here code user env bs k next → Moves may code user env bs k b u next
   Goes_to : Enters may code user env bs k next → Moves may code user env bs k b u next
   Left_open : b.checked ≡ false → IsLast code b.size b.start u → Moves may code user env bs k b u next
 
 -- the first block that does not go well, if there is one
-abbrev pub first_bad : (ℕ → ℕ → Bool) → Code → List Block → List Block → Option Block
+abbrev pub first_bad : (ℕ → ℕ → Bool) → List Insn → List Block → List Block → Option Block
 first_bad may code bs [] = None
 first_bad may code bs (b ∷ more) = elim (runs_well may code b.kind bs b.checked b.size b.start) [ true ↦ first_bad may code bs more | false ↦ Some b ]
 
@@ -180,10 +181,10 @@ member n (m ∷ ms) = elim (n == m) [ true ↦ true | false ↦ member n ms ]
 
 -- from a place of the code at which a state is known, a step leads to one of its successors
 abbrev pub StepsAreSuccessors : Type 0
-StepsAreSuccessors = (code : Code) (user : List ℕ) (env : ℕ → ℕ) (s : State) (sys : System) → Describes code user env s sys → AreRegisters sys.hart.registers
+StepsAreSuccessors = (code : List Insn) (user : List ℕ) (env : ℕ → ℕ) (s : State) (sys : System) → Describes code user env s sys → AreRegisters sys.hart.registers
     → (ts : List State) → successors code s ≡ Some ts → OneDescribes code user env ts (hart_step sys)
 
 -- where each block goes well, a step from a place of a block stays in its kind, goes into one that may follow it, or is left open
 abbrev pub BlocksLead : Type 0
-BlocksLead = (may : ℕ → ℕ → Bool) (code : Code) (user : List ℕ) (env : ℕ → ℕ) (bs : List Block) (k : ℕ) (sys : System) → all_well may code bs bs ≡ true → AreRegisters sys.hart.registers
+BlocksLead = (may : ℕ → ℕ → Bool) (code : List Insn) (user : List ℕ) (env : ℕ → ℕ) (bs : List Block) (k : ℕ) (sys : System) → all_well may code bs bs ≡ true → AreRegisters sys.hart.registers
     → (w : Here code user env bs k sys) → Moves may code user env bs k w.block w.state (hart_step sys)

@@ -1,5 +1,5 @@
 -- What is known of a hart and its bus at one place of a code in the kernel area.
-use Rattle.std.specs.Prelude.{◌≡◌, ◌⊎◌, ℕ, ◌-◌, ◌*◌, ◌^◌, ◌<◌, ◌≤◌, Some, List, [], ◌∷◌, length, slice_get, slice_index}
+use Rattle.std.specs.Prelude.{◌≡◌, ◌⊎◌, ℕ, ◌-◌, ◌*◌, ◌^◌, ◌<◌, ◌≤◌, Some, List, [], ◌∷◌, length, slice_get}
 use Rattle.fe_base.specs.MemoryMap.{kernel_start, kernel_end, kernel_code_size}
 use Rattle.rv_decode.specs.declared.instruction.Insn.{Insn}
 use Rattle.rv_decode.specs.InsnTable.{insn_of}
@@ -29,16 +29,10 @@ pub record State : Type 0 where
   pub cells : List Term
   pub facts : List Fact
 
--- a code: its words, and the instructions that they are
-pub record Code : Type 0 where
-  pub words : List ℕ
-  pub instructions : List Insn
-
--- the code's words stand at the start of the kernel area, before its data, and each is that of its instruction
-pub record CodeIs (code : Code) (kernel : List ℕ) : Type 0 where
-  pub short : 4 * length code.words ≤ kernel_code_size
-  pub stand : (k : ℕ) → k < length code.words → load kernel (4 * k) 4 ≡ slice_index code.words k
-  pub decode : (k : ℕ) (insn : Insn) → slice_get code.instructions k ≡ Some insn → (k < length code.words) × (insn_of (slice_index code.words k) ≡ Some insn)
+-- the words at the start of the kernel area, before its data, decode to the code's instructions
+pub record CodeIs (code : List Insn) (kernel : List ℕ) : Type 0 where
+  pub short : 4 * length code ≤ kernel_code_size
+  pub words : (k : ℕ) (insn : Insn) → slice_get code k ≡ Some insn → insn_of (load kernel (4 * k) 4) ≡ Some insn
 
 -- the control and status registers are those of their terms, and MRET leads to user mode
 pub record CsrsAre (env : ℕ → ℕ) (s : CsrTerms) (csrs : CsrState) : Type 0 where
@@ -51,14 +45,14 @@ pub record CsrsAre (env : ℕ → ℕ) (s : CsrTerms) (csrs : CsrState) : Type 0
   pub pmp : csrs.pmp ≡ s.pmp
 
 -- the doublewords behind the code are those of their terms, the code stands before them, and the user area is this one
-pub record MemoryIs (code : Code) (user : List ℕ) (env : ℕ → ℕ) (cells : List Term) (bus : BusState) : Type 0 where
+pub record MemoryIs (code : List Insn) (user : List ℕ) (env : ℕ → ℕ) (cells : List Term) (bus : BusState) : Type 0 where
   pub cells_are : CellsAre env cells bus.kernel kernel_code_size
   pub long : length bus.kernel ≡ kernel_end - kernel_start
   pub user_is : bus.user ≡ user
   pub code_is : CodeIs code bus.kernel
 
 -- a running hart in machine mode, over its bus, is as the state says
-pub record Describes (code : Code) (user : List ℕ) (env : ℕ → ℕ) (s : State) (sys : System) : Type 0 where
+pub record Describes (code : List Insn) (user : List ℕ) (env : ℕ → ℕ) (s : State) (sys : System) : Type 0 where
   pub run : sys.hart.run ≡ Running
   pub mode : sys.hart.mode ≡ Machine
   pub at : sys.hart.pc ≡ s.at
@@ -69,6 +63,6 @@ pub record Describes (code : Code) (user : List ℕ) (env : ℕ → ℕ) (s : St
   pub small : (n : ℕ) → env n < 2 ^ 64
 
 -- a hart over its bus is as one of the states says
-abbrev pub OneDescribes : Code → List ℕ → (ℕ → ℕ) → List State → System → Type 0
+abbrev pub OneDescribes : List Insn → List ℕ → (ℕ → ℕ) → List State → System → Type 0
 OneDescribes code user env [] sys = ⊥
 OneDescribes code user env (s ∷ ss) sys = Describes code user env s sys ⊎ OneDescribes code user env ss sys

@@ -13,7 +13,7 @@ use Rattle.rv_csr.specs.Pmp.{configured}
 use Rattle.rv_csr.specs.declared.table.Csr.{Csr}
 use Rattle.rv_csr.specs.declared.table.Csr.TheVariants.{Mtvec, Mscratch, Mepc, Mcause, Mtval, Pmpcfg0, Pmpaddr0, Pmpaddr1}
 use Rattle.kernel_steps.specs.Terms.{Term, Lit, Var, Bin, Aligned, Unknown, is_known, combine, aligned_term, Fact, compared}
-use Rattle.kernel_steps.specs.States.{CsrTerms, State, Code}
+use Rattle.kernel_steps.specs.States.{CsrTerms, State}
 
 -- the terms of the registers after a write; x0 stays
 abbrev pub put_term : List Term → ℕ → Term → List Term
@@ -210,9 +210,9 @@ abbrev pub successors_of : Insn → State → Option (List State)
 successors_of i s = and_then (action_of i s) (λ d. after_action d s)
 
 -- the instruction at an address
-abbrev pub fetch : Code → ℕ → Option Insn
-fetch code a = if a == kernel_start + 4 * ((a - kernel_start) / 4) then slice_get code.instructions ((a - kernel_start) / 4) else None
+abbrev pub fetch : List Insn → ℕ → Option Insn
+fetch code a = if a == kernel_start + 4 * ((a - kernel_start) / 4) then slice_get code ((a - kernel_start) / 4) else None
 
 -- the states to which a step may lead; none where that is not known
-abbrev pub successors : Code → State → Option (List State)
+abbrev pub successors : List Insn → State → Option (List State)
 successors code s = and_then (fetch code s.at) (λ i. successors_of i s)

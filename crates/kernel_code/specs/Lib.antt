@@ -1,0 +1,9 @@
+pub mod Places
+pub mod Numbers
+pub mod Kinds
+pub mod Shorthand
+pub mod Calls
+pub mod TrapWords
+pub mod CounterWords
+pub mod Kernel
+pub mod StepsLeft
