@@ -1,1 +1,15 @@
 pub mod UserMode
+pub mod Phases
+pub mod Mail
+pub mod Stages
+pub mod Rows
+pub mod Holds
+pub mod HostWrites
+pub mod Kept
+pub mod Ready
+pub mod Stores
+pub mod Steps
+pub mod Begins
+pub mod Mailbox
+pub mod Changes
+pub mod Advance

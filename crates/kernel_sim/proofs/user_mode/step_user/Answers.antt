@@ -1,7 +1,7 @@
 use Rattle.std.proofs.Common.{◌∙◌}
 use Rattle.rv_hart.specs.HartStep.{over}
 use Rattle.kernel_sim.proofs.Agreement.{user_steps_agree}
-use Rattle.kernel_sim.proofs.step_user.Goals as goal
+use Rattle.kernel_sim.proofs.user_mode.step_user.Goals as goal
 
 pub returns-clause-step : goal.returns-clause-step
 returns-clause-step c =

@@ -1,0 +1,228 @@
+-- Which fields of a phase a step changes.
+use Rattle.std.proofs.Common.{◌≡◌, ◌≢◌, ℕ, ◌+◌, ◌-◌, ◌*◌, ◌%◌, ◌^◌, ◌<◌, ◌≤◌, ◌==◌, ◌&&◌, ◌||◌, Bool, true, false, ◌⊎◌, inl, inr, Option, Some, None, List, [], ◌∷◌, refl, ap, sym, subst, ◌∙◌, arith, if◌then◌else◌}
+use Rattle.std.specs.Prelude.{min, slice_index, pos}
+use Rattle.std.proofs.lemmas.Bool.{false≢true, eqb-true, eqb-false, eq-eqb, ne_eqb, and_parts}
+use Rattle.fe_base.specs.Memory.{counted}
+use Rattle.fe_base.specs.MemoryMap.{boot, kernel_variables, request}
+use Rattle.rv_alu.specs.Causes.{cause_number}
+use Rattle.rv_csr.specs.declared.privilege.Mode.TheVariants as mode
+use Rattle.rv_hart.specs.HartStep.{System, AreRegisters, hart_step, over, counted_step, trap_step}
+use Rattle.rv_hart.proofs.CountLaws.{machine_steps_uncounted}
+use Rattle.guest_memory.specs.Bus.{IsBus}
+use Rattle.guest_memory.specs.Memory.{load}
+use Rattle.plain_machine.specs.UserStep.{UserStep, next, call, trap, user_step}
+use Rattle.plain_machine.specs.UserStep as user_spec
+use Rattle.plain_machine.specs.KernelPart.{gives}
+use Rattle.rv_decode.specs.declared.instruction.Insn.{Insn}
+use Rattle.kernel_steps.specs.States.{State, Describes}
+use Rattle.kernel_steps.specs.Successors.{and_then, fetch, successors_of, successors}
+use Rattle.kernel_steps.specs.Blocks.{Here}
+use Rattle.kernel_steps.proofs.Soundness.{keeps-code}
+use Rattle.kernel_code.specs.Kernel.{kernel, blocks}
+use Rattle.kernel_code.specs.Places.{pc_path_passed}
+use Rattle.kernel_code.specs.Numbers.{v_scanned}
+use Rattle.kernel_sim.specs.UserMode.{user_of}
+use Rattle.kernel_sim.proofs.Agreement.{user_steps_agree}
+use Rattle.kernel_sim.proofs.UserSteps.{seen_by}
+use Rattle.kernel_sim.specs.declared.phase.PhaseKind.{PhaseKind}
+use Rattle.kernel_sim.specs.declared.phase.PhaseKind.TheVariants.{Boot, BootWait, BootTake, Leave, User, Save, Check, Scan, Fill, Wait, Take, Local, Restore, Speak, Closing}
+use Rattle.kernel_sim.specs.declared.phase.Phase.{Phase}
+use Rattle.kernel_sim.specs.Phases.{dword, request_of, answered, user_by, text_by, scanned_by, phase_from, kind_now, next_phase}
+use Rattle.kernel_sim.specs.Rows.{call_part}
+use Rattle.kernel_sim.specs.Steps.{follows, TrapTold, Told}
+use Rattle.kernel_sim.specs.Mailbox.{MailboxKept}
+use Rattle.kernel_sim.specs.Stages.{Stage, Starting, Scanning, Looked, Past, Full, stage_kind, stage_number, boot_number, Extra, InKernel, InBoot, InUser, Place, HoldsAs, Known}
+use Rattle.kernel_sim.specs.Changes.{UserAfter, told_of, TextAfter, ScannedAfter, StepsCounted, Waits, CodeKept}
+use Rattle.kernel_sim.proofs.MailLaws.{is_bus_kept, bus-kept}
+use Rattle.kernel_sim.proofs.KeptLaws.{keeps_by, keeps-at}
+use Rattle.kernel_sim.proofs.HostLaws.{shut-of, boot-shut}
+
+-- ---- the program's state
+pub user-after : (was now : PhaseKind) (p : Phase) (old new : System) → follows was now ≡ true → Told was now p old new → p.request ≡ request_of old.bus → MailboxKept was now old.bus new.bus → UserAfter was now p old new (user_by was now p.user new)
+user-after Boot BootWait p old new e t r m = rw t.2 refl
+user-after Boot Boot p old new e t r m = refl
+user-after Boot now p old new e t r m = absurd (false≢true e)
+user-after BootWait now p old new e t r m = refl
+user-after BootTake now p old new e t r m = refl
+user-after Leave User p old new e t r m = rw (t.0, t.1) refl
+user-after Leave Leave p old new e t r m = refl
+user-after Leave now p old new e t r m = absurd (false≢true e)
+user-after User User p old new e t r m = (t.0, t.1, rw (t.2, t.3) refl, t.4)
+user-after User Save p old new e t r m = refl
+user-after User now p old new e t r m = absurd (false≢true e)
+user-after Save now p old new e t r m = refl
+user-after Check now p old new e t r m = refl
+user-after Scan now p old new e t r m = refl
+user-after Fill now p old new e t r m = refl
+user-after Wait now p old new e t r m = refl
+user-after Take Restore p old new e t r m =
+    let first : slice_index new.hart.registers 10 ≡ slice_index p.request 0 = t.0 ∙ ap (λ z. slice_index z 0) (m.2 ∙ sym r) in
+    rw (first, t.1) refl
+user-after Take Take p old new e t r m = refl
+user-after Take now p old new e t r m = absurd (false≢true e)
+user-after Local Local p old new e t r m = refl
+user-after Local Restore p old new e t r m = (slice_index new.hart.registers 10, t.0, ap (λ z. record (answered (slice_index new.hart.registers 10) p.user) { brk = z }) (go (slice_index p.user.regs 17 == 214) refl))
+  where
+    go : (b : Bool) → (slice_index p.user.regs 17 == 214) ≡ b → dword new.bus kernel_variables ≡ (if b then slice_index new.hart.registers 10 else p.user.brk)
+    go true q = t.1 (eqb-true (slice_index p.user.regs 17) 214 q)
+    go false q = t.2 (eqb-false (slice_index p.user.regs 17) 214 q)
+user-after Local now p old new e t r m = absurd (false≢true e)
+user-after Restore now p old new e t r m = refl
+user-after Speak now p old new e t r m = refl
+user-after Closing now p old new e t r m = refl
+
+-- ---- the message
+pub text-after : (was now : PhaseKind) (p : Phase) (old new : System) → follows was now ≡ true → Told was now p old new → TextAfter was now p old (text_by was now p new)
+text-after User Save p old new e t = go t.0
+  where
+    go : TrapTold old new → TextAfter User Save p old (text_by User Save p new)
+    go (inl h) = inl (h.0, let b : (new.hart.csrs.mcause == 8) ≡ true = eq-eqb _ _ h.1 in rw b refl)
+    go (inr h) = inr (h.0, h.1, h.2, let b : (new.hart.csrs.mcause == 8) ≡ false = ne_eqb _ _ (λ z. h.5 (sym h.3 ∙ z)) in rw b (rw (h.3, h.4) refl))
+text-after User User p old new e t = refl
+text-after User now p old new e t = absurd (false≢true e)
+text-after Speak Speak p old new e t = refl
+text-after Speak Closing p old new e t = refl
+text-after Speak now p old new e t = absurd (false≢true e)
+text-after Boot now p old new e t = refl
+text-after BootWait now p old new e t = refl
+text-after BootTake now p old new e t = refl
+text-after Leave now p old new e t = refl
+text-after Save now p old new e t = refl
+text-after Check now p old new e t = refl
+text-after Scan now p old new e t = refl
+text-after Fill now p old new e t = refl
+text-after Wait now p old new e t = refl
+text-after Take now p old new e t = refl
+text-after Local now p old new e t = refl
+text-after Restore now p old new e t = refl
+text-after Closing now p old new e t = refl
+
+-- ---- the bytes of a path
+few-scanned : (p : Phase) (sys : System) (i : InKernel Scan p sys) → p.scanned < 4097
+few-scanned p sys i = go i.stage i.staged i.extra
+  where
+    go : (st : Stage) → stage_kind st ≡ Scan → Extra st p i.user i.env → p.scanned < 4097
+    go Starting e x = let z = x.1 in omega arith
+    go Scanning e x = let z = x.1 in let l = x.0.below in omega arith
+    go Looked e x = let z = x.1 in let l = x.0.below in omega arith
+    go Past e x = let z = x.1 in let l = x.0.below in omega arith
+    go Full e x = let z = x.1 in let l = x.0.below in omega arith
+    go st e x = cc
+
+pub scanned-after : (was now : PhaseKind) (p : Phase) (sys : System) (pc : ℕ) → follows was now ≡ true → Place was p sys → ScannedAfter was now p.scanned (scanned_by was now p.scanned pc)
+scanned-after Scan Scan p sys pc e i = go (pc == pc_path_passed)
+  where
+    go : (b : Bool) → ((if b then min (p.scanned + 1) (2 ^ 32 - 1) else p.scanned) ≡ p.scanned) ⊎ ((if b then min (p.scanned + 1) (2 ^ 32 - 1) else p.scanned) ≡ p.scanned + 1)
+    go true = let l = few-scanned p sys i in inr (omega arith)
+    go false = inl refl
+scanned-after Scan Local p sys pc e i = refl
+scanned-after Scan Fill p sys pc e i = refl
+scanned-after Scan now p sys pc e i = absurd (false≢true e)
+scanned-after Check Scan p sys pc e i = refl
+scanned-after Check Check p sys pc e i = refl
+scanned-after Check Local p sys pc e i = refl
+scanned-after Check Fill p sys pc e i = refl
+scanned-after Check Speak p sys pc e i = refl
+scanned-after Check now p sys pc e i = absurd (false≢true e)
+scanned-after Boot now p sys pc e i = refl
+scanned-after BootWait now p sys pc e i = refl
+scanned-after BootTake now p sys pc e i = refl
+scanned-after Leave now p sys pc e i = refl
+scanned-after User now p sys pc e i = refl
+scanned-after Save now p sys pc e i = refl
+scanned-after Fill now p sys pc e i = refl
+scanned-after Wait now p sys pc e i = refl
+scanned-after Take now p sys pc e i = refl
+scanned-after Local now p sys pc e i = refl
+scanned-after Restore now p sys pc e i = refl
+scanned-after Speak now p sys pc e i = refl
+scanned-after Closing now p sys pc e i = refl
+
+-- ---- the waits
+pub waits-kind : (was now : PhaseKind) (p : Phase) (old new : System) → follows was now ≡ true → Told was now p old new → (was ≡ BootWait) ⊎ (was ≡ Wait) → p.fromhost ≡ 0 → now ≡ was
+waits-kind BootWait BootWait p old new e t w z = refl
+waits-kind BootWait BootTake p old new e t w z = absurd (t z)
+waits-kind BootWait now p old new e t w z = absurd (false≢true e)
+waits-kind Wait Wait p old new e t w z = refl
+waits-kind Wait Take p old new e t w z = absurd (t z)
+waits-kind Wait now p old new e t w z = absurd (false≢true e)
+waits-kind was now p old new e t (inl w) z = cc
+waits-kind was now p old new e t (inr w) z = cc
+
+-- ---- the count of user steps, and the code
+module _ (p : Phase) (sys : System) (fit : AreRegisters sys.hart.registers) where
+  abbrev after : System
+  after = hart_step sys
+
+  -- of the program
+  module _ (u : InUser p sys) where
+    abbrev counted_sys : System
+    counted_sys = over sys.bus (counted_step mode.User sys.hart)
+
+    step : after ≡ seen_by (user_step (user_of sys)) counted_sys
+    step = user_steps_agree sys u.run u.user_mode u.fenced
+
+    by-step : {A : Type 0} → (f : System → A) (v : A) → ((r : UserStep) → f (seen_by r counted_sys) ≡ v) → f after ≡ v
+    by-step f v g = ap f step ∙ g (user_step (user_of sys))
+
+    kernel-same : (r : UserStep) → (seen_by r counted_sys).bus.kernel ≡ sys.bus.kernel
+    kernel-same (user_spec.next st) = refl
+    kernel-same call = refl
+    kernel-same (trap c v) = refl
+
+    count-same : (r : UserStep) → (seen_by r counted_sys).hart.user_steps ≡ counted sys.hart.user_steps
+    unfolding trap_step
+    count-same (user_spec.next st) = refl
+    count-same call = refl
+    count-same (trap c v) = refl
+
+  code-here : (user : List ℕ) (env : ℕ → ℕ) (k : ℕ) → (w : Here kernel user env blocks k sys) → keeps_by w.state (successors kernel w.state) ≡ true → CodeKept sys.bus after.bus
+  code-here user env k w e = go (successors kernel w.state) refl e
+    where
+      found : (o : Option Insn) → fetch kernel w.state.at ≡ o → (ts : List State) → and_then o (λ i. successors_of i w.state) ≡ Some ts → CodeKept sys.bus after.bus
+      found (Some i) f ts q = keeps-code kernel user env w.state sys w.describes fit i ts f q
+      found None f ts q = cc
+
+      go : (o : Option (List State)) → successors kernel w.state ≡ o → keeps_by w.state o ≡ true → CodeKept sys.bus after.bus
+      go (Some ts) q r = found (fetch kernel w.state.at) refl ts q
+      go None q r = λ at width l. ap (λ z. load z.kernel at width) (bus-kept user env sys fit w.state r w.describes)
+
+  in-kernel : (k : PhaseKind) → InKernel k p sys → CodeKept sys.bus after.bus
+  in-kernel k i = code-here i.user i.env (stage_number i.stage) i.here (keeps-at i.user i.env sys (stage_number i.stage) (shut-of i.stage p i.user i.env i.extra) i.here)
+
+  in-boot : (k : PhaseKind) → InBoot k p sys → CodeKept sys.bus after.bus
+  in-boot k i = code-here i.user i.env (boot_number i.stage) i.here (keeps-at i.user i.env sys (boot_number i.stage) (boot-shut i.stage) i.here)
+
+  pub code-kept : (k : PhaseKind) → Place k p sys → CodeKept sys.bus after.bus
+  code-kept User i = λ at width l. ap (λ z. load z at width) (by-step i (λ z. z.bus.kernel) sys.bus.kernel (kernel-same i))
+  code-kept Boot i = in-boot Boot i
+  code-kept BootWait i = in-boot BootWait i
+  code-kept BootTake i = in-boot BootTake i
+  code-kept Leave i = in-boot Leave i
+  code-kept Save i = in-kernel Save i
+  code-kept Check i = in-kernel Check i
+  code-kept Scan i = in-kernel Scan i
+  code-kept Fill i = in-kernel Fill i
+  code-kept Wait i = in-kernel Wait i
+  code-kept Take i = in-kernel Take i
+  code-kept Local i = in-kernel Local i
+  code-kept Restore i = in-kernel Restore i
+  code-kept Speak i = in-kernel Speak i
+  code-kept Closing i = in-kernel Closing i
+
+  pub steps-counted : (k : PhaseKind) → Place k p sys → StepsCounted k sys.hart after.hart
+  steps-counted User i = by-step i (λ z. z.hart.user_steps) (counted sys.hart.user_steps) (count-same i)
+  steps-counted Boot i = machine_steps_uncounted sys i.here.describes.mode
+  steps-counted BootWait i = machine_steps_uncounted sys i.here.describes.mode
+  steps-counted BootTake i = machine_steps_uncounted sys i.here.describes.mode
+  steps-counted Leave i = machine_steps_uncounted sys i.here.describes.mode
+  steps-counted Save i = machine_steps_uncounted sys i.here.describes.mode
+  steps-counted Check i = machine_steps_uncounted sys i.here.describes.mode
+  steps-counted Scan i = machine_steps_uncounted sys i.here.describes.mode
+  steps-counted Fill i = machine_steps_uncounted sys i.here.describes.mode
+  steps-counted Wait i = machine_steps_uncounted sys i.here.describes.mode
+  steps-counted Take i = machine_steps_uncounted sys i.here.describes.mode
+  steps-counted Local i = machine_steps_uncounted sys i.here.describes.mode
+  steps-counted Restore i = machine_steps_uncounted sys i.here.describes.mode
+  steps-counted Speak i = machine_steps_uncounted sys i.here.describes.mode
+  steps-counted Closing i = machine_steps_uncounted sys i.here.describes.mode
