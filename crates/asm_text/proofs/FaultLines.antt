@@ -1,9 +1,7 @@
 -- A line's fault is the first of all its faults, and so is a text's.
-use Rattle.std.proofs.Common.{◌≡◌, ℕ, ◌+◌, ◌-◌, ◌≤◌, pos, negsuc, Bool, true, false, cond, List, []}
-use Rattle.std.proofs.Common.{◌∷◌, ◌++◌, length}
-use Rattle.std.proofs.Common.{length-append, append_assoc, All, Option, Some, None, Result, Ok, Err, inl, inr}
-use Rattle.std.proofs.Common.{refl, sym, ap, ◌∙◌}
-use Rattle.std.proofs.Common.{subst, arith}
+use Rattle.std.proofs.Common.{◌≡◌, ℕ, ◌+◌, ◌-◌, ◌≤◌, pos, negsuc, Bool, true, false, cond, List, [], ◌∷◌, ◌++◌, length}
+use Rattle.std.proofs.Common.{length-append, append_assoc, All, Option, Some, None, Result, Ok, Err, inl, inr, refl}
+use Rattle.std.proofs.Common.{sym, ap, ◌∙◌, subst, arith}
 use Rattle.std.proofs.lemmas.Bool.{false≢true}
 use Rattle.std.proofs.lemmas.Bool.Decides.{nat_tests}
 use Rattle.std.proofs.lemmas.List.Elements.{All-cons, All-nil}
@@ -20,19 +18,15 @@ use Rattle.asm_table.specs.declared.mnemonics.Op.TheVariants.{Registers, Immedia
 use Rattle.asm_table.specs.declared.mnemonics.Op.TheVariants.{Upper, Csr, CsrImmediate, Bare, Branch, Jump, Address}
 use Rattle.asm_table.specs.declared.mnemonics.Op.TheVariants.{Dword, Ascii}
 use Rattle.asm_text.specs.Faults.{number_of}
-use Rattle.asm_text.specs.FirstFault.{bare_marks, Form, high_marks, IsFaultless, IsFirstFault, IsFirstOf}
-use Rattle.asm_text.specs.FirstFault.{is_read, Label, Mark}
-use Rattle.asm_text.specs.FirstFault.{marks, Nat, NoneEarlier, Num, operand_marks, op_marks, piece_marks, Place, Reg}
-use Rattle.asm_text.specs.FirstFault.{text_marks, unless}
-use Rattle.asm_text.specs.FirstFault.{word_marks}
+use Rattle.asm_text.specs.FirstFault.{bare_marks, Form, high_marks, IsFaultless, IsFirstFault, IsFirstOf, is_read}
+use Rattle.asm_text.specs.FirstFault.{Label, Mark, marks, Nat, NoneEarlier, Num, operand_marks, op_marks, piece_marks}
+use Rattle.asm_text.specs.FirstFault.{Place, Reg, text_marks, unless, word_marks}
 use Rattle.asm_text.specs.Layout.{bare, before_rest, begins_comment, drop_while, ends_with, is_blank, lines_of}
-use Rattle.asm_text.specs.Layout.{next_quote, without_comment}
-use Rattle.asm_text.specs.Layout.{without_end, without_last}
-use Rattle.asm_text.specs.Pieces.{◌>>=◌, fault_at, is_empty, name, natural, number, or_fault, place, register}
-use Rattle.asm_text.specs.Pieces.{short, string_of, text}
+use Rattle.asm_text.specs.Layout.{next_quote, without_comment, without_end, without_last}
+use Rattle.asm_text.specs.Pieces.{◌>>=◌, fault_at, is_empty, name, natural, number, or_fault, place, register, short}
+use Rattle.asm_text.specs.Pieces.{string_of, text}
 use Rattle.asm_text.specs.Reading.{at_end, bare_item, is_high, is_space, item_named, item_of, labelled, last, line_item}
-use Rattle.asm_text.specs.Reading.{more_of, one}
-use Rattle.asm_text.specs.Reading.{operands_in, some_item, three, two, whole, worded}
+use Rattle.asm_text.specs.Reading.{more_of, one, operands_in, some_item, three, two, whole, worded}
 use Rattle.asm_text.specs.Texts.{Found, lines_from, Refuses, text_items, with_line}
 use Rattle.asm_text.specs.declared.fault.TextFault.{TextFault}
 use Rattle.asm_text.specs.declared.fault.TextFault.TheVariants.{At, OutOfMemory}
@@ -40,17 +34,14 @@ use Rattle.asm_text.specs.declared.fault.TextKind.{TextKind}
 use Rattle.asm_text.specs.declared.fault.TextKind.TheVariants.{BadLabel, BadLine, UnknownName}
 use Rattle.asm_text.specs.declared.layout.At.{At as Quote}
 use Rattle.asm_text.specs.declared.layout.At.TheVariants.{Outside, Inside, Escaped}
-use Rattle.asm_text.proofs.FaultLow.{text-low, word-low}
-use Rattle.asm_text.proofs.FaultOperands.{begins-before, bytes_of, ends-split, highs-behind, highs-more}
-use Rattle.asm_text.proofs.FaultOperands.{highs-spaces, is-low}
+use Rattle.asm_text.proofs.FaultLow.{is-low, text-low, word-low}
+use Rattle.asm_text.proofs.FaultOperands.{begins-before, bytes_of, ends-split, highs-behind, highs-more, highs-spaces}
 use Rattle.asm_text.proofs.FaultOperands.{name-law, name-read, name-refused, natural-law, number-law, operands-at-most}
-use Rattle.asm_text.proofs.FaultOperands.{or-some, PieceLaw}
-use Rattle.asm_text.proofs.FaultOperands.{piece-at-most, place-law, register-law}
+use Rattle.asm_text.proofs.FaultOperands.{or-some, PieceLaw, piece-at-most, place-law, register-law}
 use Rattle.asm_text.proofs.FaultPlaces.{among-left, among-right, at-most-append, at-most-more, Begins, both-low}
-use Rattle.asm_text.proofs.FaultPlaces.{by_choice}
-use Rattle.asm_text.proofs.FaultPlaces.{first-high, first-low, highs-append, highs-at-most, highs-front, IsLow, IsTold}
-use Rattle.asm_text.proofs.FaultPlaces.{later-place, low-append}
-use Rattle.asm_text.proofs.FaultPlaces.{lowest-kind, no-high, none-append, not-itself, start-bad, start-fault, Tells}
+use Rattle.asm_text.proofs.FaultPlaces.{by_choice, first-high, first-low, highs-append, highs-at-most, highs-front}
+use Rattle.asm_text.proofs.FaultPlaces.{IsLow, IsTold, later-place, low-append, lowest-kind, no-high, none-append}
+use Rattle.asm_text.proofs.FaultPlaces.{not-itself, start-bad, start-fault, Tells}
 
 -- operands, one after another
 step-tells : {X Y : Type 0} (read : List ℕ → Result X TextKind) (form : Form) (law : PieceLaw read form)

@@ -1,6 +1,5 @@
 -- What is read has no byte above 0x7F.
-use Rattle.std.proofs.Common.{◌≡◌, ℕ, ◌+◌, ◌*◌, ℤ, Bool, true, false, ◌&&◌, ◌==◌, cond, nat_lt, not, List, []}
-use Rattle.std.proofs.Common.{◌∷◌}
+use Rattle.std.proofs.Common.{◌≡◌, ℕ, ◌+◌, ◌*◌, ℤ, Bool, true, false, ◌&&◌, ◌==◌, cond, nat_lt, not, List, [], ◌∷◌}
 use Rattle.std.proofs.Common.{drop, Option, Some, None, refl, sym, ap, subst, arith}
 use Rattle.std.proofs.lemmas.Bool.{false≢true}
 use Rattle.std.proofs.lemmas.Bool.Decides.{nat_tests}
@@ -15,8 +14,7 @@ use Rattle.asm_table.specs.declared.mnemonics.Op.{Op}
 use Rattle.asm_table.specs.declared.registers.Register.{Register}
 use Rattle.asm_table.specs.declared.registers.TheConstants.{REGISTERS}
 use Rattle.asm_text.specs.Pieces.{begins, digit, digit_value, digits, given, is_empty, more_digits, negative, number_of}
-use Rattle.asm_text.specs.Pieces.{positive}
-use Rattle.asm_text.specs.Pieces.{string_of, string_rest, string_step, with_front}
+use Rattle.asm_text.specs.Pieces.{positive, string_of, string_rest, string_step, with_front}
 use Rattle.asm_text.specs.Reading.{is_high}
 use Rattle.asm_text.specs.declared.strings.Step.{Step}
 use Rattle.asm_text.specs.declared.strings.Step.TheVariants.{Add, Backslash, End, Bad}
@@ -26,6 +24,7 @@ use Rattle.asm_text.proofs.Forms.{is_clean}
 use Rattle.asm_text.proofs.LineLemmas.{clean-plain, plain-low}
 use Rattle.asm_text.proofs.RoundTrip.{first-of-word, name-word}
 use Rattle.asm_text.proofs.Written.{name-piece}
+use Rattle.asm_text.proofs.StringLemmas.{stepped}
 
 -- registers
 abbrev has_low_name : Register → Bool
@@ -97,7 +96,7 @@ negative-low : (base : ℕ) (bytes : List ℕ) (o : Option ℕ) (z : ℤ) → di
 negative-low base bytes None z e h = cc
 negative-low base bytes (Some n) z e h = digits-low base bytes n e
 
-is-low : (value byte : ℕ) → is_high value ≡ false → (byte == value) ≡ true → is_high byte ≡ false
+pub is-low : (value byte : ℕ) → is_high value ≡ false → (byte == value) ≡ true → is_high byte ≡ false
 is-low value byte h e = grind (arith, nat_tests)
 
 hex-low : (byte : ℕ) (bytes : List ℕ) (z : ℤ) → (byte == 48 && begins 120 bytes) ≡ true →
@@ -147,14 +146,6 @@ bad-escaped byte h = grind (arith, nat_tests)
 bad-step : (escaped : Bool) (byte : ℕ) → is_high byte ≡ true → string_step escaped byte ≡ Bad
 bad-step true byte h = bad-escaped byte h
 bad-step false byte h = bad-plain byte h
-
-abbrev stepped : Step → List ℕ → Option (List ℕ)
-stepped step bytes = elim step [
-  | Add added ↦ with_front (added ∷ []) (string_rest false bytes)
-  | Backslash ↦ string_rest true bytes
-  | End ↦ cond (is_empty bytes) (Some []) None
-  | Bad ↦ None
-]
 
 front-some : (byte : ℕ) (o : Option (List ℕ)) (t : List ℕ) (P : Type 0) → with_front (byte ∷ []) o ≡ Some t →
     ((u : List ℕ) → o ≡ Some u → P) → P

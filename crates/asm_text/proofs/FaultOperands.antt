@@ -1,31 +1,24 @@
 -- The fault of a line's operands is the first of them all.
-use Rattle.std.proofs.Common.{◌≡◌, ℕ, ◌+◌, ◌-◌, ◌≤◌, ℤ, pos, negsuc, Bool, true, false, ◌==◌, cond}
-use Rattle.std.proofs.Common.{List, [], ◌∷◌}
-use Rattle.std.proofs.Common.{◌++◌, length, take, get_or, length-append, append_assoc, Option, Some, None, Result, Ok}
-use Rattle.std.proofs.Common.{Err, ◌⊎◌, inl, inr}
-use Rattle.std.proofs.Common.{refl, sym, ap, ◌∙◌, subst, arith}
+use Rattle.std.proofs.Common.{◌≡◌, ℕ, ◌+◌, ◌-◌, ◌≤◌, ℤ, pos, negsuc, Bool, true, false, ◌==◌, cond, List, [], ◌∷◌, ◌++◌}
+use Rattle.std.proofs.Common.{length, take, get_or, length-append, append_assoc, Option, Some, None, Result, Ok, Err}
+use Rattle.std.proofs.Common.{◌⊎◌, inl, inr, refl, sym, ap, ◌∙◌, subst, arith}
 use Rattle.std.proofs.lemmas.Bool.Decides.{nat_tests}
 use Rattle.std.proofs.lemmas.Grind.{common_steps}
 use Rattle.std.specs.List.{list_any}
 use Rattle.asm_items.specs.Names.{is_name}
 use Rattle.asm_table.specs.Cuts.{before, behind}
 use Rattle.asm_table.specs.Registers.{register_of}
-use Rattle.asm_text.specs.FirstFault.{bracket_marks, Form, high_marks, is_read, Label, Mark, Nat}
-use Rattle.asm_text.specs.FirstFault.{Num}
-use Rattle.asm_text.specs.FirstFault.{operand_marks, piece_marks, Place, Reg, unless}
+use Rattle.asm_text.specs.FirstFault.{bracket_marks, Form, high_marks, is_read, Label, Mark, Nat, Num, operand_marks}
+use Rattle.asm_text.specs.FirstFault.{piece_marks, Place, Reg, unless}
 use Rattle.asm_text.specs.Layout.{drop_while, ends_with, without_last}
-use Rattle.asm_text.specs.Pieces.{◌>>=◌, fault_at, inside_brackets, name, natural, natural_within, number}
-use Rattle.asm_text.specs.Pieces.{number_of, or_fault}
-use Rattle.asm_text.specs.Pieces.{place, register, within}
+use Rattle.asm_text.specs.Pieces.{◌>>=◌, fault_at, inside_brackets, name, natural, natural_within, number, number_of}
+use Rattle.asm_text.specs.Pieces.{or_fault, place, register, within}
 use Rattle.asm_text.specs.Reading.{is_high, is_space, more_of}
 use Rattle.asm_text.specs.declared.fault.TextKind.{TextKind}
 use Rattle.asm_text.specs.declared.fault.TextKind.TheVariants.{BadLabel, BadLine, BadNumber, BadRegister}
-use Rattle.asm_text.proofs.FaultLow.{name-low, number-low, register-low}
-use Rattle.asm_text.proofs.FaultPlaces.{AtMost, at-most-append, at-most-more, Begins}
-use Rattle.asm_text.proofs.FaultPlaces.{by_choice}
-use Rattle.asm_text.proofs.FaultPlaces.{first-low, highs-front, IsLow, IsTold, low-append}
-use Rattle.asm_text.proofs.FaultPlaces.{second-low}
-use Rattle.asm_text.proofs.FaultPlaces.{start-bad, start-fault}
+use Rattle.asm_text.proofs.FaultLow.{is-low, name-low, number-low, register-low}
+use Rattle.asm_text.proofs.FaultPlaces.{AtMost, at-most-append, at-most-more, Begins, by_choice, first-low, highs-front}
+use Rattle.asm_text.proofs.FaultPlaces.{IsLow, IsTold, low-append, second-low, start-bad, start-fault}
 
 -- the bytes that are left
 abbrev pub bytes_of : Option (List ℕ) → List ℕ
@@ -33,9 +26,6 @@ bytes_of None = []
 bytes_of (Some rest) = rest
 
 -- spaces and commas
-pub is-low : (value byte : ℕ) → is_high value ≡ false → (byte == value) ≡ true → is_high byte ≡ false
-is-low value byte h e = grind (arith, nat_tests)
-
 spaces-step : (space : Bool) (tail byte : ℕ) (bytes : List ℕ) → is_space byte ≡ space →
     high_marks tail bytes ≡ high_marks tail (drop_while is_space bytes) →
     high_marks tail (byte ∷ bytes) ≡ high_marks tail (cond space (drop_while is_space bytes) (byte ∷ bytes))

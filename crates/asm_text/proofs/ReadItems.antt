@@ -1,7 +1,6 @@
 -- What is read of a line can be printed, and takes at most 256 words.
-use Rattle.std.proofs.Common.{◌≡◌, ℕ, ◌<◌, ◌≤◌, ℤ, pos, negsuc, ◌≤ℤ◌, Bool, true, false, ◌||◌, ◌==◌}
-use Rattle.std.proofs.Common.{cond, nat_le, nat_lt, List, [], ◌∷◌, length, Option, Some, None, Result, Ok, Err, refl}
-use Rattle.std.proofs.Common.{arith}
+use Rattle.std.proofs.Common.{◌≡◌, ℕ, ◌<◌, ◌≤◌, ℤ, pos, negsuc, ◌≤ℤ◌, Bool, true, false, ◌||◌, ◌==◌, cond, nat_le}
+use Rattle.std.proofs.Common.{nat_lt, List, [], ◌∷◌, length, Option, Some, None, Result, Ok, Err, refl, arith}
 use Rattle.std.proofs.lemmas.Bool.Decides.{nat_tests}
 use Rattle.std.proofs.lemmas.Int.{ints}
 use Rattle.std.specs.List.{list_all, list_any}
@@ -44,9 +43,9 @@ use Rattle.asm_table.specs.declared.mnemonics.CsrImmediateOp.TheVariants as of_c
 use Rattle.asm_table.specs.declared.mnemonics.BareOp.{BareOp}
 use Rattle.asm_table.specs.declared.mnemonics.BareOp.TheVariants as of_bare
 use Rattle.asm_text.specs.Layout.{bare, ends_with, without_last}
-use Rattle.asm_text.specs.Pieces.{◌>>=◌, inside_brackets, is_empty, is_printable, name, natural}
-use Rattle.asm_text.specs.Pieces.{natural_within, number, number_of, or_fault, place, register, short, string_of}
-use Rattle.asm_text.specs.Pieces.{string_rest, string_step, text, with_front, within}
+use Rattle.asm_text.specs.Pieces.{◌>>=◌, inside_brackets, is_empty, is_printable, name, natural, natural_within, number}
+use Rattle.asm_text.specs.Pieces.{number_of, or_fault, place, register, short, string_of, string_rest, string_step}
+use Rattle.asm_text.specs.Pieces.{text, with_front, within}
 use Rattle.asm_text.specs.Reading.{at_end, bare_item, is_high, item_named, item_of, labelled, last, line_item, one}
 use Rattle.asm_text.specs.Reading.{operand, operands_in, some_item, three, two, worded}
 use Rattle.asm_text.specs.declared.fault.TextKind.{TextKind}
@@ -54,6 +53,7 @@ use Rattle.asm_text.specs.declared.fault.TextKind.TheVariants.{BadLine, BadNumbe
 use Rattle.asm_text.specs.declared.strings.Step.{Step}
 use Rattle.asm_text.specs.declared.strings.Step.TheVariants.{Add, Backslash, End, Bad}
 use Rattle.asm_text.proofs.Cleanly.{and_first, and_second}
+use Rattle.asm_text.proofs.StringLemmas.{stepped}
 
 -- a value that was read, if one was, has a property
 abbrev pub OkIs : {X : Type 0} → (X → Type 0) → Result X TextKind → Type 0
@@ -191,14 +191,6 @@ front-is : (byte : ℕ) (o : Option (List ℕ)) → is_text_byte byte ≡ true �
     SomeIs AreTextBytes (with_front (byte ∷ []) o)
 front-is byte None h k = tt
 front-is byte (Some bytes) h k = rw h k
-
-abbrev stepped : Step → List ℕ → Option (List ℕ)
-stepped step bytes = elim step [
-  | Add added ↦ with_front (added ∷ []) (string_rest false bytes)
-  | Backslash ↦ string_rest true bytes
-  | End ↦ cond (is_empty bytes) (Some []) None
-  | Bad ↦ None
-]
 
 stepped-is : (step : Step) (bytes : List ℕ) → StepIs step → SomeIs AreTextBytes (string_rest false bytes) →
     SomeIs AreTextBytes (string_rest true bytes) → SomeIs AreTextBytes (stepped step bytes)

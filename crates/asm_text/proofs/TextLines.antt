@@ -1,6 +1,6 @@
 -- A line of a text between quotes.
-use Rattle.std.proofs.Common.{◌≡◌, ℕ, ◌≤◌, inl, inr, Bool, true, false, ◌||◌, ◌==◌, cond, if◌then◌else◌, List, [], ◌∷◌}
-use Rattle.std.proofs.Common.{◌++◌, length, Option, Some, None, Result, Ok, refl, sym, ap, ◌∙◌, subst, append_assoc}
+use Rattle.std.proofs.Common.{◌≡◌, ℕ, ◌≤◌, inl, inr, Bool, true, false, ◌||◌, ◌==◌, cond, List, [], ◌∷◌}
+use Rattle.std.proofs.Common.{◌++◌, length, Option, Some, Result, Ok, refl, sym, ap, ◌∙◌, subst, append_assoc}
 use Rattle.std.proofs.Common.{arith}
 use Rattle.std.proofs.lemmas.Bool.{cases_eq}
 use Rattle.std.proofs.lemmas.Bool.Decides.{nat_tests}
@@ -12,12 +12,12 @@ use Rattle.asm_text.specs.declared.layout.At.TheVariants.{Outside, Inside}
 use Rattle.asm_text.specs.declared.fault.TextKind.{TextKind}
 use Rattle.asm_text.specs.declared.fault.TextKind.TheVariants.{BadLine}
 use Rattle.asm_text.specs.declared.strings.Step.{Step}
-use Rattle.asm_text.specs.declared.strings.Step.TheVariants.{Add, Backslash, End, Bad}
+use Rattle.asm_text.specs.declared.strings.Step.TheVariants.{Add}
 use Rattle.asm_table.specs.declared.mnemonics.Op.{Op}
 use Rattle.asm_table.specs.declared.mnemonics.Op.TheVariants as op
 use Rattle.asm_table.specs.Cuts.{behind}
 use Rattle.asm_text.specs.Layout.{bare, drop_while, ends_with, is_blank, without_comment, without_end}
-use Rattle.asm_text.specs.Pieces.{◌>>=◌, is_empty, is_printable, or_fault, short, string_rest, string_step, text}
+use Rattle.asm_text.specs.Pieces.{◌>>=◌, is_printable, or_fault, short, string_rest, string_step, text}
 use Rattle.asm_text.specs.Pieces.{with_front}
 use Rattle.asm_items.specs.Printable.{is_text_byte}
 use Rattle.asm_text.specs.Printing.{escaped, words}
@@ -28,6 +28,7 @@ use Rattle.asm_text.proofs.Cleanly.{and_first, and_second, before-stop, behind-s
 use Rattle.asm_text.proofs.Forms.{is_clean}
 use Rattle.asm_text.proofs.LineLemmas.{all-append, clean-not-blank, clean-plain, finish, is_plain, kept-end}
 use Rattle.asm_text.proofs.RoundTrip.{first-of-word, name-word}
+use Rattle.asm_text.proofs.StringLemmas.{stepped}
 
 record IsOther (byte : ℕ) : Type 0 where
   no_line : (byte == 10) ≡ false
@@ -76,15 +77,6 @@ comment-text (byte ∷ bytes) =
 or-right : (a b : Bool) → (a || b) ≡ true → b ≡ false → a ≡ true
 or-right true b h k = refl
 or-right false b h k = sym k ∙ h
-
--- what a string holds after a step
-abbrev stepped : Step → List ℕ → Option (List ℕ)
-stepped step bytes = elim step [
-  | Add added ↦ with_front (added ∷ []) (string_rest false bytes)
-  | Backslash ↦ string_rest true bytes
-  | End ↦ if is_empty bytes then Some [] else None
-  | Bad ↦ None
-]
 
 step-other : (byte : ℕ) → IsOther byte → is_printable byte ≡ true → string_step false byte ≡ Add byte
 step-other byte o h = rw (o.no_quote, o.no_backslash, h) refl

@@ -7,7 +7,7 @@ use std::alloc::{AllocError, Global};
 use std::test::Fail;
 
 // A text, and the line and the number of its first fault; two zeros where it has none.
-static TEXTS: [(&[u8], u64, u8); 107] = [
+static TEXTS: [(&[u8], u64, u8); 108] = [
     (b"", 0, 0), // no line has an item
     (b"\n\n \t\n# only a comment", 0, 0), // no line has an item
     (b"add x1, x2", 1, 1), // the third operand is missing
@@ -115,6 +115,7 @@ static TEXTS: [(&[u8], u64, u8); 107] = [
     (b"ecall\n\nbad\nadd", 3, 2), // the first fault counts
     (b"a:\nbeq x0, x0, a\nb", 3, 2), // the last line may lack its end
     (b"a:\na:\nbeq x0, x0, there", 0, 0), // labels are looked up later
+    (b"start:\n    la a0, start\n    beq x0, x0, start", 0, 0),
 ];
 
 fn texts() -> &'static [(&'static [u8], u64, u8)] {
