@@ -1,5 +1,5 @@
 // A port by a wire that moves doublewords.
-ghost use Rattle.std.specs.Prelude.{◌≡◌, ◌+◌, ◌/◌, ℕ, [], length, IfOk, OnOk};
+ghost use Rattle.std.specs.Prelude.{◌≡◌, ◌≤◌, ◌+◌, ◌/◌, ℕ, [], length, IfOk, OnOk};
 ghost use Rattle.std.specs.Result.{result_err};
 ghost use Rattle.fe_base.specs.Wires.{OnTold};
 ghost use Rattle.chunk_memory.specs.BeatChunks.{DirectOne, DirectRefused, of_wire, wire_counts};
@@ -68,6 +68,7 @@ fn read_beats<W: BeatWire>(wire: &mut W, at: u64, into: &mut [u8]) -> Result<(),
     ensures told { OnTold (W.told wire.old) (W.told wire.new)
         (ChunkRead (DirectOne W.next) (DirectRefused W.next W.lost) at into.new result) }
     ensures exact { OnOk result (W.left wire.old ≡ W.left wire.new + length into.old / 8) }
+    ensures most { W.left wire.old ≤ W.left wire.new + length into.old / 8 }
 {
     let mut done = 0;
     while done < into.len() {
@@ -95,6 +96,7 @@ fn write_beats<W: BeatWire>(wire: &mut W, at: u64, from: &[u8]) -> Result<(), Po
     ensures told { OnTold (W.told wire.old) (W.told wire.new)
         (ChunkWritten (DirectOne W.next) (DirectRefused W.next W.lost) at from.now result) }
     ensures exact { OnOk result (W.left wire.old ≡ W.left wire.new + length from.now / 8) }
+    ensures most { W.left wire.old ≤ W.left wire.new + length from.now / 8 }
 {
     let mut done = 0;
     while done < from.len() {
@@ -169,6 +171,7 @@ impl<W: BeatWire> ChunkPort for DirectPort<W> {
         ensures told { OnTold (W.told self.old) (W.told self.new)
             (ChunkRead (DirectOne W.next) (DirectRefused W.next W.lost) at into.new result) }
         ensures exact { OnOk result (W.left self.old ≡ W.left self.new + length into.old / 8) }
+        ensures most { W.left self.old ≤ W.left self.new + length into.old / 8 }
     {
         read_beats(&mut self.wire, at, into)
     }
@@ -189,6 +192,7 @@ impl<W: BeatWire> ChunkPort for DirectPort<W> {
         ensures told { OnTold (W.told self.old) (W.told self.new)
             (ChunkWritten (DirectOne W.next) (DirectRefused W.next W.lost) at from.now result) }
         ensures exact { OnOk result (W.left self.old ≡ W.left self.new + length from.now / 8) }
+        ensures most { W.left self.old ≤ W.left self.new + length from.now / 8 }
     {
         write_beats(&mut self.wire, at, from)
     }

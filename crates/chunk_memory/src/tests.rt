@@ -1,9 +1,13 @@
 // Ranges over a bus and over a small wire, beside what lists of bytes say.
-ghost use Rattle.std.specs.Prelude.{◌≡◌, ◌≤◌, ◌<◌, ◌+◌, ℕ, [], None};
-ghost use Rattle.fe_base.specs.Wires.{FailsBy, Lowers, StaysUnfailed};
+ghost use Rattle.std.specs.Prelude.{◌≡◌, ◌≤◌, ◌<◌, ◌+◌, ℕ, [], None, length};
+ghost use Rattle.fe_base.specs.Wires.{FailsBy, Lowers, OnTold, StaysUnfailed};
+ghost use Rattle.chunk_memory.specs.BeatChunks.{DirectOne};
+ghost use Rattle.chunk_memory.specs.Ports.{with_bytes};
+ghost use Rattle.chunk_memory.specs.RamTurns.{ram_turn};
+ghost use Rattle.chunk_memory.specs.Transactions.{ReadsRange};
 
 use crate::mapped::first_unmapped;
-use crate::{Chunked, DirectPort, MemStop, RamPort};
+use crate::{ChunkPort, Chunked, DirectPort, MemStop, RamPort};
 use fe_base::memory_map::{KERNEL_END, KERNEL_START, START_WORD, TOHOST, USER_END, USER_START};
 use fe_base::{BeatWire, WireStop};
 use guest_memory::Bus;
@@ -367,4 +371,57 @@ fn unmapped_ranges(rt: HostRuntime) {
         assert_eq!(rt; memory.into_port().into_wire().left, 9);
     }
     assert_eq!(rt; bytes, [0xee; 40]);
+}
+
+// What has a bus beside other things.
+#[derive(Drop)]
+struct Machine {
+    bus: Bus,
+    steps: u64,
+}
+
+// Reads a range over a port, and gives the port back.
+fn read_over<P: ChunkPort>(
+    port: P,
+    at: u64,
+    into: &mut [u8],
+    outcome: &mut Result<(), MemStop>,
+) -> P
+    requires { P.usable port }
+    ensures kept { P.kept result ≡ P.kept port }
+    ensures told { OnTold (P.told port) (P.told result)
+        (ReadsRange P.one P.refused P.unit P.most at (length into.old) (with_bytes outcome.new into.new)) }
+{
+    let mut memory = Chunked::over(port);
+    *outcome = memory.read(at, into);
+    memory.into_port()
+}
+
+impl Machine {
+    // Reads a range of its bus, which it then knows.
+    fn read(&mut self, at: u64, into: &mut [u8]) -> Result<(), MemStop>
+        ensures steps { self.new.steps ≡ self.old.steps }
+        ensures bytes { ReadsRange (DirectOne ram_turn) (λ before chunk stop after. ⊥) 8 1024 at (length into.old)
+            (with_bytes result into.new) self.old.bus self.new.bus }
+    {
+        let mut outcome = Ok(());
+        let _port = read_over(RamPort::over(&mut self.bus), at, into, &mut outcome);
+        outcome
+    }
+}
+
+#[test]
+fn a_bus_that_is_a_field(rt: HostRuntime) -> Result<(), Fail> {
+    let bus = Bus::new(rt.alloc())?;
+    let mut machine = Machine { bus, steps: 7 };
+    machine.bus.store_within(USER_START, 2, 0x0102);
+    let mut bytes = [9; 3];
+    assert_eq!(rt; machine.read(USER_START, &mut bytes), Ok(()));
+    assert_eq!(rt; bytes, [2, 1, 0]);
+    assert_eq!(rt;
+        machine.read(USER_END, &mut bytes),
+        Err(MemStop::Unmapped(USER_END))
+    );
+    assert_eq!(rt; machine.steps, 7);
+    Ok(())
 }
