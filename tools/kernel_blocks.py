@@ -692,9 +692,8 @@ are_bounds =
         """The shorthand of the lists, and the doublewords and registers that many blocks know."""
         text = f"-- Shorthand for the lists of blocks, and what many of them know of doublewords, and of control and status registers. {BY}\n"
         text += """use Rattle.std.specs.Prelude.{ℕ, Bool, true, false, List, [], ◌∷◌}
-use Rattle.rv_alu.specs.declared.arithmetic.AluOp.TheVariants as op
-use Rattle.kernel_steps.specs.Terms.{Term, Lit, Var, Bin, Aligned, Unknown, Fact}
-use Rattle.kernel_steps.specs.States.{CsrTerms, State}
+use Rattle.kernel_steps.specs.Terms.{Term, Lit, Var, Unknown, Fact}
+use Rattle.kernel_steps.specs.States.{CsrTerms}
 use Rattle.kernel_steps.specs.Blocks.{Block}
 
 -- nothing is known

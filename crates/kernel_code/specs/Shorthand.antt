@@ -1,8 +1,7 @@
 -- Shorthand for the lists of blocks, and what many of them know of doublewords, and of control and status registers. Written by tools/kernel_blocks.py.
 use Rattle.std.specs.Prelude.{ℕ, Bool, true, false, List, [], ◌∷◌}
-use Rattle.rv_alu.specs.declared.arithmetic.AluOp.TheVariants as op
-use Rattle.kernel_steps.specs.Terms.{Term, Lit, Var, Bin, Aligned, Unknown, Fact}
-use Rattle.kernel_steps.specs.States.{CsrTerms, State}
+use Rattle.kernel_steps.specs.Terms.{Term, Lit, Var, Unknown, Fact}
+use Rattle.kernel_steps.specs.States.{CsrTerms}
 use Rattle.kernel_steps.specs.Blocks.{Block}
 
 -- nothing is known

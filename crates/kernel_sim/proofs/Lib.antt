@@ -29,6 +29,7 @@ pub mod SpokenLaws
 pub mod StateLaws
 pub mod MailboxLaws
 pub mod BeginLaws
+pub mod LoadLaws
 pub mod RowLaws
 pub mod ChangeLaws
 pub mod AdvanceLaws

@@ -1,5 +1,16 @@
 // The laws of the phases, on which a run of kernel and host stands.
+ghost use Rattle.kernel_sim.specs.Begins.{ImageLoads, ResetBegins};
 ghost use Rattle.kernel_sim.specs.Advance.{StepsAdvance, HostWritesHold, StepsLower, StepsBounded};
+
+/// A kernel area that begins with the bytes of `kernel_image` holds the kernel's image.
+pub fn image_loads()
+    ensures { ImageLoads }
+{}
+
+/// Over a start word that is not 0, the first step after reset lets the hart run, as `begin` asks.
+pub fn reset_begins()
+    ensures { ResetBegins }
+{}
 
 /// A step of the hart from a phase that holds leads to the next phase, which holds.
 pub fn steps_advance()

@@ -22,7 +22,9 @@ pub mod user_mode;
 mod words;
 pub mod writes;
 
-pub use laws::{host_writes_hold, steps_advance, steps_bounded, steps_lower};
+pub use laws::{
+    host_writes_hold, image_loads, reset_begins, steps_advance, steps_bounded, steps_lower,
+};
 pub use phase::{Phase, PhaseKind, Spoken, UserState};
 pub use start::begin;
 pub use steps::advance;
