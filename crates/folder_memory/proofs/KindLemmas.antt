@@ -1,11 +1,12 @@
 -- The names of a tree decide kinds and numbers.
-use Rattle.std.proofs.Common.{◌≡◌, refl, ap, sym, ◌∙◌, subst, false, Some, None, Option, IsSome, unwrap_or, ℕ, List, [], ◌∷◌}
+use Rattle.std.proofs.Common.{◌≡◌, refl, ap, sym, ◌∙◌, subst, false, true, arith, length, Some, None, Option, IsSome, unwrap_or, ℕ, List, [], ◌∷◌}
 use Rattle.std.specs.FinMap as map
-use Rattle.folder_tree.specs.Paths.{Parts}
+use Rattle.folder_tree.specs.Paths.{Parts, parts_of, path_text}
+use Rattle.folder_memory.specs.Folder.{is_inner_directory}
 use Rattle.folder_tree.specs.Tree.{HasParents, IsWellFormed, Tree, kind_found, file_of, kind_of, number_at, number_found}
-use Rattle.folder_tree.specs.TreeOps.{is_filled, without}
+use Rattle.folder_tree.specs.TreeOps.{is_directory, is_filled, without}
 use Rattle.folder_tree.specs.Laws.{file_of-number, found_at-names, named-bytes, number_at-named}
-use Rattle.folder_tree.specs.RemoveDirLaws.{directory-name, removed_dir-IsWellFormed}
+use Rattle.folder_tree.specs.RemoveDirLaws.{directory_kind, directory-name, removed_dir-IsWellFormed}
 use Rattle.folder_tree.specs.declared.folder.PathKind.TheVariants.{Directory}
 use Rattle.folder_memory.specs.Names.{names_tree}
 use Rattle.folder_memory.proofs.TreeLemmas.{Names, Bytes, Opens, tree}
@@ -44,3 +45,22 @@ pub removed_dir-well : (names gone : Names) (contents : Bytes) (opens : Opens) (
 removed_dir-well names gone contents opens t path is well some dir empty left =
     let P : Names → Type 0 = λ n. IsWellFormed (tree n contents opens) in
     subst P (sym left) (removed_by (tree names contents opens) path some well (ap (λ u. kind_of u path) is ∙ dir) empty)
+
+-- ---- a directory that is not the root
+
+pub inner-parts : (t : Tree) (path : Parts) → is_inner_directory t path ≡ true → path ≡ [] → ⊥
+inner-parts t [] inner e = cc
+inner-parts t (part ∷ parts) inner e = cc
+
+pub inner-kind : (t : Tree) (path : Parts) → is_inner_directory t path ≡ true → kind_of t path ≡ Directory
+inner-kind t [] inner = cc
+inner-kind t (part ∷ parts) inner = directory_kind (kind_of t (part ∷ parts)) inner
+
+-- what a test of the text and of the kind says
+pub inner-root : (t : Tree) (path : Parts) (text : List ℕ) → text ≡ path_text path → parts_of text ≡ path → length text ≡ 0 → false ≡ is_inner_directory t path
+inner-root t path [] is parts none = ap (is_inner_directory t) parts
+inner-root t path (byte ∷ text) is parts none = absurd (omega arith)
+
+pub inner-other : (t : Tree) (path : Parts) (text : List ℕ) → text ≡ path_text path → (length text ≡ 0 → ⊥) → is_directory (kind_of t path) ≡ is_inner_directory t path
+inner-other t [] text is filled = absurd (filled (ap length is))
+inner-other t (part ∷ parts) text is filled = refl

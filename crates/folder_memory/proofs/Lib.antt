@@ -10,3 +10,4 @@ pub mod TextLemmas
 pub mod FilledLemmas
 pub mod KindLemmas
 pub mod StandingLemmas
+pub mod CallLemmas

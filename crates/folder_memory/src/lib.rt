@@ -1,7 +1,10 @@
-// A folder in memory, which tells its tree.
+// A folder in memory, which tells its tree. `MemoryFolder` meets the trait `Folder`; each call of a
+// listed number fails. Names stand in a map by the text of their path, what files hold in a slab to
+// whose keys file numbers lead, and opens in a list with an entry for each.
 #![tactic(auto)]
 
 mod contents;
+mod folder;
 mod held;
 mod names;
 mod opens;
@@ -9,7 +12,4 @@ mod opens;
 mod tests;
 mod tree;
 
-pub use contents::Contents;
-pub use names::{Names, Stood};
-pub use opens::Opens;
-pub use tree::MemoryTree;
+pub use folder::MemoryFolder;

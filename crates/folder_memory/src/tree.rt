@@ -1,11 +1,11 @@
 // The tree of a memory folder.
-ghost use Rattle.std.specs.Prelude.{◌≡◌, ◌<◌, ◌^◌, ◌+◌, ◌==◌, ◌&&◌, not, IfOk, OnErr, OnOk, length, nat_lt, true, Some, unwrap_or, []};
-ghost use Rattle.folder_tree.specs.Tree.{bytes_of, directory, empty_tree, file_of, kind_of, number_at, opens_of};
-ghost use Rattle.folder_tree.specs.TreeOps.{After, created, dropped, emptied, holding, is_named, least_free, named, opened, released, sized, with_file, without, written};
+ghost use Rattle.std.specs.Prelude.{◌≡◌, ◌<◌, ◌^◌, ◌+◌, ◌==◌, ◌&&◌, not, IfOk, IsTrue, OnErr, OnOk, length, nat_lt, true, Some, unwrap_or};
+ghost use Rattle.folder_tree.specs.Tree.{IsWellFormed, bytes_of, directory, empty_tree, file_of, kind_of, number_at, opens_of};
+ghost use Rattle.folder_tree.specs.TreeOps.{After, created, dropped, emptied, holding, is_free, is_named, least_free, named, opened, released, sized, with_file, without, written};
 ghost use Rattle.folder_memory.specs.Names.{names_tree};
+ghost use Rattle.folder_memory.specs.Folder.{is_inner_directory};
 ghost use Rattle.std.specs.FinMap as map;
 ghost use Rattle.std.specs.Option.{option_copied};
-ghost use Rattle.folder_tree.specs.declared.folder.PathKind.TheVariants.{Directory, Free};
 
 use crate::contents::Contents;
 use crate::names::{Names, Stood};
@@ -51,6 +51,23 @@ impl MemoryTree {
         ensures { result ≡ kind_of self.now path.now }
     {
         self.names.kind(path)
+    }
+
+    /// Whether nothing stands at a path, in a directory that does.
+    pub fn is_free(&self, path: &Path) -> bool
+        ensures { result ≡ is_free (kind_of self.now path.now) }
+    {
+        matches!(self.kind(path), PathKind::Free)
+    }
+
+    /// Whether a directory other than the root stands at a path.
+    pub fn is_inner_directory(&self, path: &Path) -> bool
+        ensures { result ≡ is_inner_directory self.now path.now }
+    {
+        if path.text().is_empty() {
+            return false;
+        }
+        matches!(self.kind(path), PathKind::Directory)
     }
 
     /// The number of the file at a path.
@@ -135,9 +152,10 @@ impl MemoryTree {
 
     /// Makes a directory at a free path.
     pub fn make_dir(&mut self, path: &Path) -> Result<(), AllocError>
-        requires { kind_of self.old path.now ≡ Free }
+        requires { IsTrue (is_free (kind_of self.old path.now)) }
         ensures ok { OnOk result (self.new ≡ named self.old path.now directory) }
         ensures err { OnErr result (self.new ≡ self.old) }
+        ensures well_formed { IsWellFormed self.new }
     {
         self.names.add(path, Stood::Directory)?;
         Ok(())
@@ -145,10 +163,11 @@ impl MemoryTree {
 
     /// Adds a file that isn't open at a free path, and gives its number.
     pub fn put(&mut self, path: &Path, bytes: Vec<u8>) -> Result<u64, AllocError>
-        requires { kind_of self.old path.now ≡ Free }
+        requires { IsTrue (is_free (kind_of self.old path.now)) }
         ensures number { IfOk result (λ n. n ≡ least_free self.old.bytes) }
         ensures ok { OnOk result (self.new ≡ with_file self.old path.now (least_free self.old.bytes) bytes.items) }
         ensures err { OnErr result (self.new ≡ self.old) }
+        ensures well_formed { IsWellFormed self.new }
     {
         let number = self.contents.least_free();
         self.contents.add(number, bytes)?;
@@ -159,9 +178,21 @@ impl MemoryTree {
         Ok(number)
     }
 
+    /// Adds a file that isn't open at a free path, with a copy of these bytes.
+    pub fn put_copy(&mut self, path: &Path, bytes: &[u8]) -> Result<(), AllocError>
+        requires { IsTrue (is_free (kind_of self.old path.now)) }
+        ensures ok { OnOk result (self.new ≡ with_file self.old path.now (least_free self.old.bytes) bytes.now) }
+        ensures err { OnErr result (self.new ≡ self.old) }
+        ensures well_formed { IsWellFormed self.new }
+    {
+        let bytes = bytes.to_vec(self.alloc)?;
+        self.put(path, bytes)?;
+        Ok(())
+    }
+
     /// Makes an empty file at a free path, opens it, and gives its number.
     pub fn create(&mut self, path: &Path) -> Result<u64, AllocError>
-        requires { kind_of self.old path.now ≡ Free }
+        requires { IsTrue (is_free (kind_of self.old path.now)) }
         ensures number { IfOk result (λ n. n ≡ least_free self.old.bytes) }
         ensures ok { OnOk result (self.new ≡ created self.old path.now) }
         ensures err { OnErr result (self.new ≡ self.old) }
@@ -188,8 +219,7 @@ impl MemoryTree {
 
     /// Removes a directory that is not the root; false, and no change, where something stands in it.
     pub fn remove_dir(&mut self, path: &Path) -> bool
-        requires parts { path.now ≡ [] → ⊥ }
-        requires kind { kind_of self.old path.now ≡ Directory }
+        requires { IsTrue (is_inner_directory self.old path.now) }
         ensures { record { answer = result; tree = self.new } ≡ emptied self.old path.now }
     {
         if self.names.is_filled(path) {

@@ -1,4 +1,1 @@
 pub mod PathLemmas
-pub mod MapLemmas
-pub mod FileLemmas
-pub mod CallLemmas

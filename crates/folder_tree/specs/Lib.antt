@@ -3,8 +3,6 @@ pub mod Paths
 pub mod Tree
 pub mod TreeOps
 pub mod Answers
--- How the folder in memory stands for a tree.
-pub mod FilesFolder
 -- Laws of these definitions, which the proofs of crates above need; no contract cites them.
 pub mod Laws
 pub mod FreeNumbers
@@ -12,3 +10,4 @@ pub mod RowLaws
 pub mod RemoveLaws
 pub mod RemoveDirLaws
 pub mod WalkLaws
+pub mod SuitLaws

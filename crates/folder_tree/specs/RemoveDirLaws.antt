@@ -110,7 +110,7 @@ removed_dir-IsWellFormed t path well dir empty =
       counts = well.counts;
     }
 
-directory_kind : (kind : PathKind) → is_directory kind ≡ true → kind ≡ Directory
+pub directory_kind : (kind : PathKind) → is_directory kind ≡ true → kind ≡ Directory
 directory_kind Directory e = refl
 directory_kind File e = cc
 directory_kind Free e = cc

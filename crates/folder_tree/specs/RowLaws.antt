@@ -187,7 +187,7 @@ named-HasParents t path new well free =
 
 -- ---- new names
 
-free_kind : (kind : PathKind) → is_free kind ≡ true → kind ≡ Free
+pub free_kind : (kind : PathKind) → is_free kind ≡ true → kind ≡ Free
 free_kind Directory e = cc
 free_kind File e = cc
 free_kind Free e = refl

@@ -1,18 +1,13 @@
 // A tree of files behind a trait: what each call answers and does to the tree stands in
 // `specs/TreeOps`, one row a call, and a folder that tells its tree answers by these rows.
 // A folder also counts its faults and its wants of memory, and each refusal raises its count.
-// `read_path` reads the text of a path. `FilesFolder` is a folder in memory, of files in its
-// root, whose listed calls fail.
+// `read_path` reads the text of a path.
 #![tactic(auto)]
 
-mod counts;
-mod files;
 mod folder;
 mod path;
-mod root_files;
 #[cfg(test)]
 mod tests;
 
-pub use files::FilesFolder;
 pub use folder::{Folder, FolderStop, PathKind};
 pub use path::{Path, read_path};

@@ -66,6 +66,36 @@ impl Folder for NoFolder {
         self.faults = self.faults.saturating_add(1);
         Err(FolderStop::Failed)
     }
+
+    fn create(&mut self, _path: &Path) -> Result<u64, FolderStop> {
+        self.faults = self.faults.saturating_add(1);
+        Err(FolderStop::Failed)
+    }
+
+    fn write_at(&mut self, _number: u64, _at: u64, _bytes: &[u8]) -> Result<(), FolderStop> {
+        self.faults = self.faults.saturating_add(1);
+        Err(FolderStop::Failed)
+    }
+
+    fn set_size(&mut self, _number: u64, _size: u64) -> Result<(), FolderStop> {
+        self.faults = self.faults.saturating_add(1);
+        Err(FolderStop::Failed)
+    }
+
+    fn remove(&mut self, _path: &Path) -> Result<(), FolderStop> {
+        self.faults = self.faults.saturating_add(1);
+        Err(FolderStop::Failed)
+    }
+
+    fn make_dir(&mut self, _path: &Path) -> Result<(), FolderStop> {
+        self.faults = self.faults.saturating_add(1);
+        Err(FolderStop::Failed)
+    }
+
+    fn remove_dir(&mut self, _path: &Path) -> Result<bool, FolderStop> {
+        self.faults = self.faults.saturating_add(1);
+        Err(FolderStop::Failed)
+    }
 }
 
 #[derive(Drop)]

@@ -39,7 +39,6 @@
 mod answer;
 mod file;
 mod front;
-mod host;
 mod listing;
 mod plan;
 mod report;
@@ -54,11 +53,14 @@ ghost use Rattle.spike_front.specs.Report.{code_of};
 
 use answer::Answer;
 use fe_base::{StdSink, StdSource, Words};
-use host::{HostFolder, NULL_DEVICE};
+use folder_host::HostFolder;
 use std::fs::open;
 use std::io::ErrorKind;
 use std::process::ExitCode;
 use std::{env, io};
+
+/// The device that gives nothing.
+const NULL_DEVICE: &str = "/dev/null";
 
 // The words after the program's name. Words that are not all UTF-8 are no words.
 fn words_of(rt: &HostRuntime) -> io::Result<Words> {

@@ -7,10 +7,10 @@ mod quiet_folder;
 
 use crate::answer::Answer;
 use crate::front::front;
-use crate::host::HostFolder;
 use elf_loader::{ElfFault, read_elf};
 use fe_base::{ByteSink, ByteSource, Words};
-use folder_tree::{FilesFolder, Folder, FolderStop, Path, PathKind, read_path};
+use folder_memory::MemoryFolder;
+use folder_tree::{Path, read_path};
 use plain_machine::{Plain, PlainEnd};
 use programs::{
     BEYOND, COUNTER, DIVIDES, END, FOREVER, FRONT, GROWS, HI, JUMPS_BETWEEN, NO_CALL, READS,
@@ -18,7 +18,6 @@ use programs::{
 };
 use quiet_folder::{Calls, QuietFolder};
 use std::alloc::{AllocError, Global};
-use std::fs;
 use std::process::Abort;
 use std::str::from_utf8;
 use std::test::Fail;
@@ -51,7 +50,7 @@ fn check_words(rt: &impl Abort, alloc: Global, words: &Words, case: &Case) -> Re
     let mut input = ByteSource::new(alloc, b"", &[])?;
     let mut console = ByteSink::new(alloc, 100, case.console)?;
     let mut report = ByteSink::new(alloc, 128, case.report)?;
-    let mut folder = FilesFolder::new(alloc, case.folder)?;
+    let mut folder = MemoryFolder::new(alloc, case.folder)?;
     let path = read_path(b"p")?;
     assert!(rt; folder.can_put(&path));
     folder.put_file(&path, case.file)?;
@@ -520,42 +519,11 @@ fn a_run_stops_at_its_limit(rt: HostRuntime) -> Result<(), Fail> {
     let args = Words::new(alloc);
     let mut input = ByteSource::new(alloc, b"", &[])?;
     let mut console = ByteSink::new(alloc, 100, &[])?;
-    let mut folder = FilesFolder::new(alloc, &[])?;
+    let mut folder = MemoryFolder::new(alloc, &[])?;
     let mut plain = Plain::start(alloc, image, &args, Path::root())?;
     let end = plain.run(3, &mut folder, &mut input, &mut console);
     assert_eq!(rt; end, PlainEnd::StepsSpent);
     assert_eq!(rt; plain.steps(), 3);
-    Ok(())
-}
-
-#[test]
-fn the_working_directory_is_read(rt: HostRuntime) -> Result<(), Fail> {
-    fs::write(&rt, "host_folder", "abcdef")?;
-    let mut folder = HostFolder::here(rt);
-    let kinds = [
-        ("", PathKind::Directory),
-        ("host_folder", PathKind::File),
-        ("host_folder_2", PathKind::Free),
-        ("missing/file", PathKind::NoParent),
-        ("host_folder/below", PathKind::UnderFile),
-    ];
-    for (text, kind) in kinds {
-        let path = read_path(text.as_bytes())?;
-        assert_eq!(rt; folder.kind(&path), Ok(kind), "{text}");
-    }
-    let path = read_path(b"host_folder")?;
-    let number = folder.open_file(&path)?;
-    let other = folder.open_file(&path)?;
-    let mut into = [0; 4];
-    assert_eq!(rt; folder.size(number), Ok(6));
-    assert_eq!(rt; folder.read_at(number, 4, &mut into), Ok(2));
-    assert_eq!(rt; into, *b"ef\0\0");
-    assert_eq!(rt; folder.read_at(other, 0, &mut into), Ok(4));
-    assert_eq!(rt; into, *b"abcd");
-    assert_eq!(rt; folder.release(number), Ok(()));
-    assert_eq!(rt; folder.size(number), Err(FolderStop::Failed));
-    assert_eq!(rt; folder.size(other), Ok(6));
-    fs::remove_file(&rt, "host_folder")?;
     Ok(())
 }
 

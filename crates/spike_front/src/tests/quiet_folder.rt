@@ -74,4 +74,28 @@ impl Folder for QuietFolder<'_> {
         self.calls.release = self.calls.release.saturating_add(1);
         Ok(())
     }
+
+    fn create(&mut self, _path: &Path) -> Result<u64, FolderStop> {
+        Ok(7)
+    }
+
+    fn write_at(&mut self, _number: u64, _at: u64, _bytes: &[u8]) -> Result<(), FolderStop> {
+        Ok(())
+    }
+
+    fn set_size(&mut self, _number: u64, _size: u64) -> Result<(), FolderStop> {
+        Ok(())
+    }
+
+    fn remove(&mut self, _path: &Path) -> Result<(), FolderStop> {
+        Ok(())
+    }
+
+    fn make_dir(&mut self, _path: &Path) -> Result<(), FolderStop> {
+        Ok(())
+    }
+
+    fn remove_dir(&mut self, _path: &Path) -> Result<bool, FolderStop> {
+        Ok(true)
+    }
 }
