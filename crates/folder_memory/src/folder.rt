@@ -40,7 +40,8 @@ impl Model for MemoryFolder {
 impl MemoryFolder {
     /// A folder with nothing in its root, on which no call was made.
     pub fn new(alloc: Global, failing: &[u64]) -> Result<MemoryFolder, AllocError>
-        ensures { IfOk result (λ f. f ≡ record { tree = empty_tree; calls = 0; failing = failing.now; faults = 0; short = 0 }) }
+        ensures empty { IfOk result (λ f. f ≡ record { tree = empty_tree; calls = 0; failing = failing.now; faults = 0; short = 0 }) }
+        ensures well_formed { IfOk result (λ f. IsWellFormed f.tree) }
     {
         Ok(MemoryFolder {
             tree: MemoryTree::new(alloc),
@@ -133,7 +134,10 @@ fn move_bytes(bytes: &[u8], at: u64, into: &mut [u8]) -> usize
 fn is_writable(at: u64, bytes: &[u8]) -> bool
     ensures { result ≡ is_writable at bytes.now }
 {
-    !bytes.is_empty() && at.checked_add(bytes.len() as u64).is_some_and(|end| end < 1 << 63)
+    !bytes.is_empty()
+        && at
+            .checked_add(bytes.len() as u64)
+            .is_some_and(|end| end < 1 << 63)
 }
 
 // Each call, by its row.

@@ -46,7 +46,11 @@ fn a_file_is_written_and_cut(rt: HostRuntime) -> Result<(), Fail> {
     assert_eq!(rt; buffer, *b"\0xyz..");
     assert_eq!(rt; folder.set_size(1, 3), Ok(()));
     assert_eq!(rt; folder.size(1), Ok(3));
-    assert!(rt; folder.file(&new).is_some_and(|bytes| bytes == b"\0\0x".as_slice()));
+    assert!(rt;
+        folder
+            .file(&new)
+            .is_some_and(|bytes| bytes == b"\0\0x".as_slice())
+    );
     Ok(())
 }
 
@@ -57,9 +61,30 @@ fn a_removed_file_stays_while_it_is_open(rt: HostRuntime) -> Result<(), Fail> {
     assert_eq!(rt; folder.open_file(&file), Ok(0));
     assert_eq!(rt; folder.remove(&file), Ok(()));
     assert!(rt; folder.file(&file).is_none());
+    assert_eq!(rt; folder.kind(&file), Ok(PathKind::Free));
     assert_eq!(rt; folder.size(0), Ok(3));
     assert_eq!(rt; folder.release(0), Ok(()));
     assert_eq!(rt; folder.size(0), Err(FolderStop::Failed));
+    Ok(())
+}
+
+#[test]
+fn a_file_is_written_behind_its_end(rt: HostRuntime) -> Result<(), Fail> {
+    let mut folder = some_folder(&rt, rt.alloc(), 99)?;
+    let file = read_path(b"f")?;
+    for _ in 0..61 {
+        assert_eq!(rt; folder.open_file(&file), Ok(0));
+    }
+    assert_eq!(rt; folder.write_at(0, 6, b"z"), Ok(()));
+    for _ in 0..61 {
+        assert_eq!(rt; folder.release(0), Ok(()));
+    }
+    assert_eq!(rt; folder.release(0), Err(FolderStop::Failed));
+    assert!(rt;
+        folder
+            .file(&file)
+            .is_some_and(|bytes| bytes == b"abc\0\0\0z".as_slice())
+    );
     Ok(())
 }
 
@@ -86,6 +111,9 @@ fn a_listed_call_fails(rt: HostRuntime) -> Result<(), Fail> {
     assert_eq!(rt; folder.create(&new), Ok(1));
     assert_eq!(rt; folder.write_at(1, 0, b""), Err(FolderStop::Failed));
     assert_eq!(rt; folder.write_at(1, u64::MAX, b"x"), Err(FolderStop::Failed));
-    assert_eq!(rt; folder.open_file(&read_path(b"d")?), Err(FolderStop::Failed));
+    assert_eq!(rt;
+        folder.open_file(&read_path(b"d")?),
+        Err(FolderStop::Failed)
+    );
     Ok(())
 }

@@ -4,7 +4,8 @@ use crate::answer::Answer;
 use crate::front::front;
 use crate::listing::word_lines;
 use fe_base::{ByteSink, ByteSource, Words};
-use folder_tree::{FilesFolder, read_path};
+use folder_memory::MemoryFolder;
+use folder_tree::read_path;
 use proxy_kernel::kernel_image;
 use std::alloc::{AllocError, Global};
 use std::process::Abort;
@@ -122,7 +123,7 @@ fn listing(
     let mut input = ByteSource::new(alloc, b"", &[])?;
     let mut console = ByteSink::new(alloc, 100_000, &[])?;
     let mut report = ByteSink::new(alloc, 128, &[])?;
-    let mut folder = FilesFolder::new(alloc, &[])?;
+    let mut folder = MemoryFolder::new(alloc, &[])?;
     let path = read_path(b"p")?;
     assert!(rt; folder.can_put(&path));
     folder.put_file(&path, file)?;
