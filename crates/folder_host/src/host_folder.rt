@@ -4,7 +4,7 @@ ghost use Rattle.fe_base.specs.Outside.{Rose};
 ghost use Rattle.folder_tree.specs.declared.folder.FolderStop.{FolderStop as Stop};
 
 use crate::names::{is_file, kind_of, name_of};
-use folder_tree::{Folder, FolderStop, Path, PathKind};
+use folder_tree::{Folder, FolderStop, Path, PathKind, is_writable};
 use slab::Slab;
 use std::collections::BTreeMap;
 use std::fs::{OpenFile, OpenOptions, create_dir, remove_dir, remove_file};
@@ -61,14 +61,6 @@ fn read_from<F: Read + Seek>(file: &mut F, at: u64, into: &mut [u8]) -> io::Resu
 fn write_from<F: Write + Seek>(file: &mut F, at: u64, bytes: &[u8]) -> io::Result<()> {
     file.seek(SeekFrom::Start(at))?;
     file.write_all(bytes)
-}
-
-// Whether some bytes end below 2^63 where they begin at a place.
-fn is_writable(at: u64, bytes: &[u8]) -> bool {
-    !bytes.is_empty()
-        && at
-            .checked_add(bytes.len() as u64)
-            .is_some_and(|end| end < 1 << 63)
 }
 
 // Removes a directory; false where something stands in it.

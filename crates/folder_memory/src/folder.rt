@@ -3,12 +3,12 @@ ghost use Rattle.std.specs.Prelude.{◌≡◌, ◌≤◌, IfOk, IsTrue, OnErr, O
 ghost use Rattle.std.specs.Option.{option_copied};
 ghost use Rattle.fe_base.specs.Memory.{NoneFrom, counted, is_listed};
 ghost use Rattle.folder_tree.specs.Tree.{IsWellFormed, Tree, directory, empty_tree, file_of, kind_of};
-ghost use Rattle.folder_tree.specs.TreeOps.{create_row, is_free, is_writable, kind_row, least_free, make_dir_row, named, open_row, read_row, release_row, remove_dir_row, remove_row, set_size_row, size_row, with_file, write_row};
+ghost use Rattle.folder_tree.specs.TreeOps.{create_row, is_free, kind_row, least_free, make_dir_row, named, open_row, read_row, release_row, remove_dir_row, remove_row, set_size_row, size_row, with_file, write_row};
 ghost use Rattle.folder_tree.specs.Answers.{Answers, HasCauses, StaysSteady, Suits, bytes_read};
 ghost use Rattle.folder_memory.specs.Folder.{Called, HasCounts, refused};
 
 use crate::tree::MemoryTree;
-use folder_tree::{Folder, FolderStop, Path, PathKind};
+use folder_tree::{Folder, FolderStop, Path, PathKind, is_writable};
 use std::alloc::{AllocError, Global};
 use std::marker::Model;
 
@@ -128,16 +128,6 @@ fn move_bytes(bytes: &[u8], at: u64, into: &mut [u8]) -> usize
     let count = into.len().min(rest.len());
     into[..count].copy_from_slice(&rest[..count]);
     count
-}
-
-// Whether some bytes end below 2^63 where they begin at a place.
-fn is_writable(at: u64, bytes: &[u8]) -> bool
-    ensures { result ≡ is_writable at bytes.now }
-{
-    !bytes.is_empty()
-        && at
-            .checked_add(bytes.len() as u64)
-            .is_some_and(|end| end < 1 << 63)
 }
 
 // Each call, by its row.

@@ -9,5 +9,5 @@ mod path;
 #[cfg(test)]
 mod tests;
 
-pub use folder::{Folder, FolderStop, PathKind};
+pub use folder::{Folder, FolderStop, PathKind, is_writable};
 pub use path::{Path, read_path};
