@@ -70,7 +70,7 @@ fn a_removed_file_stays_while_it_is_open(rt: HostRuntime) -> Result<(), Fail> {
 
 #[test]
 fn a_file_is_written_behind_its_end(rt: HostRuntime) -> Result<(), Fail> {
-    let mut folder = some_folder(&rt, rt.alloc(), 99)?;
+    let mut folder = some_folder(&rt, rt.alloc(), 999)?;
     let file = read_path(b"f")?;
     for _ in 0..61 {
         assert_eq!(rt; folder.open_file(&file), Ok(0));
