@@ -16,14 +16,16 @@ use Rattle.elf_loader.specs.declared.image.Image.{Image}
 use Rattle.elf_loader.specs.declared.fault.ElfFault.{ElfFault}
 use Rattle.elf_loader.specs.declared.fault.ElfFault.TheVariants.{TooLarge, Short, Magic, Class, Order, Version, Kind, Machine, Flags, HeaderSize, Headers, Dynamic, Segment as CutSegment, Outside, Overlap, Entry}
 
--- what a segment of an image that may be run is: not empty, no longer in the file than in memory, and inside the area for programs that the kernel runs
+-- what a segment of an image that may be run is: not empty, no longer in the file than in memory, and inside the area
+-- for programs that the kernel runs
 pub record IsFitSegment (s : Segment) : Type 0 where
   pub not_empty : 0 < s.size
   pub fits : length s.bytes ≤ s.size
   pub above : user_start ≤ s.address
   pub below : end_of s ≤ stack_top
 
--- an image that may be run: its segments suit and none meet, the entry is aligned and in one of them, and the break lies behind them
+-- an image that may be run: its segments suit and none meet, the entry is aligned and in one of them, and the break
+-- lies behind them
 pub record IsFit (image : Image) : Type 0 where
   pub segments : All IsFitSegment image.segments
   pub apart : AllPairs (λ a b. meets a b ≡ false) image.segments
@@ -52,7 +54,8 @@ abbrev pub first_meeting : ℕ → List ProgramHeader → Option (ℕ × ℕ)
 first_meeting i [] = None
 first_meeting i (h ∷ hs) = option_or (option_map (λ j. (i, j)) (position_from (segments_meet h) (i + 1) hs)) (first_meeting (i + 1) hs)
 
--- what is wrong with the length and with e_ident: the magic number, ELFCLASS64, ELFDATA2LSB, EV_CURRENT (System V gABI, chapter 4, ELF Identification)
+-- what is wrong with the length and with e_ident: the magic number, ELFCLASS64, ELFDATA2LSB, EV_CURRENT (System V gABI,
+-- chapter 4, ELF Identification)
 unfoldable pub identification_rows : List ℕ → List (Option ElfFault)
 identification_rows file =
     fault_when (nat_lt elf_file_limit (length file)) TooLarge
@@ -67,7 +70,8 @@ identification_rows file =
 abbrev pub refused_flags : ℕ
 refused_flags = 0xF
 
--- what is wrong with e_type (ET_EXEC), e_machine (EM_RISCV), e_flags, e_ehsize and e_phentsize, or where the headers end (RISC-V ELF psABI, File Header)
+-- what is wrong with e_type (ET_EXEC), e_machine (EM_RISCV), e_flags, e_ehsize and e_phentsize, or where the headers
+-- end (RISC-V ELF psABI, File Header)
 unfoldable pub file_header_rows : List ℕ → List (Option ElfFault)
 file_header_rows file =
     fault_when (not (number_at 2 16 file == 2)) Kind
@@ -77,7 +81,8 @@ file_header_rows file =
     ∷ fault_when (nat_lt (length file) (headers_place file + 56 * headers_count file)) Headers
     ∷ []
 
--- what is wrong with the program headers and the entry of a file of this length, whose segments have to stand in these areas, and which may begin at its entry or not
+-- what is wrong with the program headers and the entry of a file of this length, whose segments have to stand in these
+-- areas, and which may begin at its entry or not
 unfoldable pub program_header_rows : List Area → Bool → ℕ → ℕ → List ProgramHeader → List (Option ElfFault)
 program_header_rows areas may_enter file_length entry headers =
     fault_when (list_any is_dynamic headers) Dynamic

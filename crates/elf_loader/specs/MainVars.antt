@@ -16,7 +16,8 @@ abbrev pub texts_with_nuls : List (List ℕ) → List ℕ
 texts_with_nuls [] = []
 texts_with_nuls (text ∷ texts) = text ++ 0 ∷ [] ++ texts_with_nuls texts
 
--- the count, argv with its end, an environment of nothing but its end, and the texts behind them (riscv-isa-sim, fesvr, getmainvars)
+-- the count, argv with its end, an environment of nothing but its end, and the texts behind them (riscv-isa-sim, fesvr,
+-- getmainvars)
 abbrev pub main_vars_text : List (List ℕ) → ℕ → List ℕ
 main_vars_text args base =
     dword (length args) ++ pointers (base + 8 * (length args + 3)) args ++ dword 0 ++ dword 0 ++ texts_with_nuls args

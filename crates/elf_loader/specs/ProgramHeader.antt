@@ -11,7 +11,8 @@ use Rattle.elf_loader.specs.declared.header.ProgramHeader.{ProgramHeader}
 unfoldable pub number_at : ℕ → ℕ → List ℕ → ℕ
 number_at width place file = little_number width (drop place file)
 
--- p_type, p_offset, p_vaddr, p_filesz and p_memsz of the header at a place of the file (System V gABI, chapter 5, Program Header)
+-- p_type, p_offset, p_vaddr, p_filesz and p_memsz of the header at a place of the file (System V gABI, chapter 5,
+-- Program Header)
 unfoldable pub header_at : ℕ → List ℕ → ProgramHeader
 header_at place file = record {
   kind = number_at 4 place file;

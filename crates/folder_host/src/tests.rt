@@ -50,7 +50,10 @@ fn a_device_is_a_fault(rt: HostRuntime) -> Result<(), Fail> {
     let device = read_path(b"host_device")?;
     assert_eq!(rt; folder.kind(&device), Err(FolderStop::Failed));
     assert_eq!(rt; folder.open_file(&device), Err(FolderStop::Failed));
-    assert_eq!(rt; folder.kind(&read_path(b"host_device/x")?), Ok(PathKind::UnderFile));
+    assert_eq!(rt;
+        folder.kind(&read_path(b"host_device/x")?),
+        Ok(PathKind::UnderFile)
+    );
     fs::remove_file(&rt, "host_device")?;
     Ok(())
 }

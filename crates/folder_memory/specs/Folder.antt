@@ -51,7 +51,8 @@ after_by false s (Some after) = record s { tree = after.tree; calls = counted s.
 abbrev pub after_call : {A : Type 0} → FolderState → Option (After A) → FolderState
 after_call s row = after_by (is_listed s.calls s.failing) s row
 
--- a call of this row answered this and left this; want of memory comes only where the call would have succeeded, and leaves the tree
+-- a call of this row answered this and left this; want of memory comes only where the call would have succeeded, and
+-- leaves the tree
 abbrev pub Called : {A : Type 0} → FolderState → FolderState → Option (After A) → Result A FolderStop → Type 0
 Called s now row (Ok answer) = (answer_of s row ≡ Ok answer) × (now ≡ after_call s row)
 Called s now row (Err Failed) = (answer_of s row ≡ Err Failed) × (now ≡ after_call s row)

@@ -1,4 +1,5 @@
--- The operations on a tree, one row each: `None` where the call doesn't suit the tree, else the answer and the tree after it.
+-- The operations on a tree, one row each: `None` where the call doesn't suit the tree, else the answer and the tree
+-- after it.
 use Rattle.std.specs.Prelude.{◌^◌, ℕ, zero, suc, Bool, true, false, List, [], ◌∷◌, ◌++◌, length, take, drop, replicate, sum, ◌+◌, ◌-◌, Option, Some, None, is_some, ◌==◌, ◌&&◌, not, nat_lt, if◌then◌else◌}
 use Rattle.std.specs.List.{list_any}
 use Rattle.std.specs.FinMap as map
