@@ -30,8 +30,9 @@ pub record ModuleState : Type 0 where
 abbrev pub reset_module : ModuleState
 reset_module = record { active = false; haltreq = false; resume = false; acked = false; job = NoJob; value = 0; buffer = 0 ∷ 0 ∷ 0 ∷ 0 ∷ []; cmderr = 0 }
 
--- each field fits its register
+-- each field fits its register, and a module that is not active is as at reset
 pub record IsModule (m : ModuleState) : Type 0 where
+  pub inactive : m.active ≡ false → m ≡ reset_module
   pub value_fits : m.value < 2 ^ 64
   pub buffer_length : length m.buffer ≡ 4
   pub words_fit : (i : ℕ) → slice_index m.buffer i < 2 ^ 32
@@ -205,17 +206,19 @@ known_step (BufferStore at value) single = if single && is_beat at then BufferSt
 known_step OtherStep single = OtherStep
 
 module _ {V R : Type 0} (ran : V → ℕ → V → Type 0) (touched : V → Access → V → Type 0) (resumed : List ℕ → R → V) where
-  -- an access of a halted hart leaves its registers
-  abbrev pub TouchedHalted : List ℕ → R → Access → R → Type 0
-  TouchedHalted registers rest access rest' = touched (resumed registers rest) access (resumed registers rest')
+  -- an access of a halted hart leaves its registers, and what is left of the rest hangs on none of them: resuming with
+  -- any registers shows the access
+  abbrev pub TouchedHalted : R → Access → R → Type 0
+  TouchedHalted rest access rest' =
+      (registers : List ℕ) → touched (resumed registers rest) access (resumed registers rest')
 
   -- the buffer was run: as one access where it is known, else with any end
   abbrev pub BufferDone : BufferStep → ModuleState → List ℕ → R → ModuleState → HartSide V R → Type 0
   BufferDone (BufferLoad rd at) m registers rest m' side' =
-      (value : ℕ) × (value < 2 ^ 64) × (rest' : R) × TouchedHalted registers rest (Loaded at value) rest'
+      (value : ℕ) × (value < 2 ^ 64) × (rest' : R) × TouchedHalted rest (Loaded at value) rest'
       × (m' ≡ m) × (side' ≡ Stopped (with_register registers rd value) rest')
   BufferDone (BufferStore at value) m registers rest m' side' =
-      (rest' : R) × TouchedHalted registers rest (Stored at value) rest' × (m' ≡ m) × (side' ≡ Stopped registers rest')
+      (rest' : R) × TouchedHalted rest (Stored at value) rest' × (m' ≡ m) × (side' ≡ Stopped registers rest')
   BufferDone OtherStep m registers rest m' side' =
       (error : ℕ) × (registers' : List ℕ) × (rest' : R) × (m' ≡ record m { cmderr = error }) × (side' ≡ Stopped registers' rest')
 
@@ -258,13 +261,15 @@ module _ {V R : Type 0} (ran : V → ℕ → V → Type 0) (touched : V → Acce
       (n : ModuleState) × (between : HartSide V R) × SideStep m side n between × SideSteps count n between m' side'
 
   -- a turn of a module access: some hart steps, at least one where every pause is positive, and then the access, which
-  -- leaves the hart
+  -- leaves the hart as it was behind the steps
   pub record DmiTurned {S : Type 0} (valid positive : S → Type 0) (module_of : S → ModuleState) (side : S → HartSide V R)
       (before : S) (ask : DmiAsk) (reply : ℕ) (after : S) : Type 0 where
     pub steps : ℕ
     pub between : ModuleState
-    pub pause : SideSteps steps (module_of before) (side before) between (side after)
-    pub access : module_access between (is_halted (side after)) ask.op ask.address ask.value ≡ (module_of after, reply)
+    pub paused : HartSide V R
+    pub pause : SideSteps steps (module_of before) (side before) between paused
+    pub access : module_access between (is_halted paused) ask.op ask.address ask.value ≡ (module_of after, reply)
+    pub side_left : side after ≡ paused
     pub reply_fits : reply < 2 ^ 32
     pub still_valid : valid after
     pub some_step : positive before → 0 < steps

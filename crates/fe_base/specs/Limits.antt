@@ -1,7 +1,7 @@
 -- The limits of the product under names that clauses and definitions of any crate can cite. Each is its constant's
 -- number.
 use Rattle.std.specs.Prelude.{ℕ}
-use Rattle.fe_base.specs.declared.limits.TheConstants.{ELF_FILE_LIMIT, ASSEMBLY_FILE_LIMIT, MAIN_VARS_LIMIT, TRANSFER_LIMIT, OPEN_NUMBERS, GUEST_PATH_LIMIT, PATH_TEXT_LIMIT, PATH_LIMIT, PATH_PART_LIMIT, GUEST_FILE_LIMIT, GREATEST_BREAK, STACK_TOP, PAUSE_LIMIT}
+use Rattle.fe_base.specs.declared.limits.TheConstants.{ELF_FILE_LIMIT, ASSEMBLY_FILE_LIMIT, MAIN_VARS_LIMIT, TRANSFER_LIMIT, OPEN_NUMBERS, GUEST_PATH_LIMIT, PATH_TEXT_LIMIT, PATH_LIMIT, PATH_PART_LIMIT, GUEST_FILE_LIMIT, GREATEST_BREAK, STACK_TOP, PAUSE_LIMIT, DEFAULT_STEP_LIMIT, GREATEST_STEP_LIMIT, REPORT_LINE_LIMIT}
 
 -- the most bytes of a program file
 abbrev pub elf_file_limit : ℕ
@@ -54,3 +54,15 @@ stack_top = STACK_TOP
 -- the most hart steps of a pause
 abbrev pub pause_limit : ℕ
 pause_limit = PAUSE_LIMIT
+
+-- the limit of steps, where the words give none
+abbrev pub default_step_limit : ℕ
+default_step_limit = DEFAULT_STEP_LIMIT
+
+-- the greatest limit of steps that the words may give
+abbrev pub greatest_step_limit : ℕ
+greatest_step_limit = GREATEST_STEP_LIMIT
+
+-- the most bytes of the report's last line, its newline among them
+abbrev pub report_line_limit : ℕ
+report_line_limit = REPORT_LINE_LIMIT

@@ -39,3 +39,12 @@ pub const STACK_TOP: u64 = USER_END - MAIN_VARS_LIMIT;
 
 /// The most hart steps of a pause, before one transaction.
 pub const PAUSE_LIMIT: u32 = 1_000_000;
+
+/// The most steps of a run on the direct machine, where the words give no limit.
+pub const DEFAULT_STEP_LIMIT: u64 = 1_000_000_000;
+
+/// The greatest limit of steps that the words may give.
+pub const GREATEST_STEP_LIMIT: u64 = 1_000_000_000_000;
+
+/// The most bytes of the report's last line, its newline among them.
+pub const REPORT_LINE_LIMIT: usize = 128;
