@@ -4,6 +4,7 @@ pub mod PieceLemmas
 pub mod RamBytes
 pub mod RamLemmas
 pub mod RangeSpelled
+pub mod ReachLemmas
 pub mod ReadSpelled
 pub mod SizeLemmas
 pub mod Stays

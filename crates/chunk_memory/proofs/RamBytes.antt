@@ -53,14 +53,14 @@ module _ (start end : ℕ) (even : start % 8 ≡ 0) (whole : end % 8 ≡ 0) (abo
   size_even = omega arith
 
   -- a range that was read gives the area's bytes, and leaves the bus
-  pub area-read : (at count : ℕ) (bytes : List ℕ) (area : List ℕ) (v w : BusState) → Has area v → start ≤ at → at + count ≤ end → ReadWhole (λ (s : BusState). s) (λ s u. s ≡ u) (λ _. Unit {0}) (Reached ram_ran ram_touched) 8 at count bytes v w
+  pub area-read : (at count : ℕ) (bytes : List ℕ) (area : List ℕ) (v w : BusState) → Has area v → start ≤ at → at + count ≤ end → ReadWhole (λ (s : BusState). s) (λ s u. s ≡ u) (λ _. Unit {0}) (λ _. ⊥) ram_ran (Reached ram_ran ram_touched) 8 at count bytes v w
       → Has area w × (bytes ≡ take count (drop (at - start) area))
   area-read at count bytes area v w h low high r =
       let got = read-stays ram_ran ram_touched start (end - start) even size_even Has (λ l b x. x.long) (λ l b x. x.small) (λ l b c n x same. has-same l b c x same) has-loads 8 r.accesses area at bytes v w h low (omega (arith, r.size)) r.spell r.path in
       (got.0, got.1 ∙ ap (λ (n : ℕ). take n (drop (at - start) area)) r.size)
 
   -- a range that was written stands in the area, and all else is as it was
-  pub area-written : (at : ℕ) (bytes : List ℕ) (area : List ℕ) (v w : BusState) → Has area v → start ≤ at → at + length bytes ≤ end → WriteWhole (λ (s : BusState). s) (λ s u. s ≡ u) (λ _. Unit {0}) (Reached ram_ran ram_touched) 8 at bytes v w
+  pub area-written : (at : ℕ) (bytes : List ℕ) (area : List ℕ) (v w : BusState) → Has area v → start ≤ at → at + length bytes ≤ end → WriteWhole (λ (s : BusState). s) (λ s u. s ≡ u) (λ _. Unit {0}) (λ _. ⊥) ram_ran (Reached ram_ran ram_touched) 8 at bytes v w
       → Has (with_part area (at - start) bytes) w
   area-written at bytes area v w h low high r =
       write-stays ram_ran ram_touched start (end - start) even size_even Has (λ l b x. x.long) (λ l b x. x.small) (λ l b c n x same. has-same l b c x same) has-loads 8 1024 direct_sizes has-stores 8 r.accesses area at bytes v w h low (omega arith) r.spell r.path

@@ -10,7 +10,8 @@ use Rattle.chunk_memory.specs.BeatLaws.{eight-of}
 use Rattle.chunk_memory.specs.Ports.{IsChunk, ArePortSizes}
 use Rattle.chunk_memory.specs.Ranges.{IsMappedRange}
 use Rattle.chunk_memory.specs.Reached.{OneReaches, RefusedReaches, IsNoCommand, AsksSame}
-use Rattle.chunk_memory.specs.Spelling.{IsPiece, SpellsRead, SpellsChunk, IsOneAccess}
+use Rattle.chunk_memory.proofs.ReachLemmas.{steps-then}
+use Rattle.chunk_memory.specs.Spelling.{IsPiece, SpellsRead, SpellsChunk, IsOneAccess, StepsFirst}
 use Rattle.chunk_memory.specs.Transactions.{Chunk, ReadChunk, WriteChunk, begins_in_part, chunk_size, step_size, ReadStep, ReadChunks, Made}
 use Rattle.chunk_memory.specs.declared.stops.PortStop.{PortStop}
 
@@ -128,15 +129,16 @@ module _ (unit most : ℕ) (sizes : ArePortSizes unit most) where
         is_one = subst (λ (n : ℕ). IsOneAccess at n (xs ++ ys)) all (step-one unit most at bytes place got xs ys sizes step first left);
       }
 
-  module _ {S V : Type 0} (view : S → V) (stands : S → V → Type 0) (valid ready positive : S → Type 0) (reached : V → List Access → V → Type 0) (one : S → Chunk → S → Type 0) (refused : S → Chunk → PortStop → S → Type 0)
+  module _ {S V : Type 0} (view : S → V) (stands : S → V → Type 0) (valid ready positive : S → Type 0) (ran : V → ℕ → V → Type 0) (reached : V → List Access → V → Type 0) (one : S → Chunk → S → Type 0) (refused : S → Chunk → PortStop → S → Type 0)
       (reached_none : (v : V) → reached v [] v) (reached_then : (u v w : V) (xs ys : List Access) → reached u xs v → reached v ys w → reached u (xs ++ ys) w)
-      (one_reaches : OneReaches unit most view valid ready positive reached one) (refused_reaches : RefusedReaches unit most view stands valid ready reached refused) where
+      (one_reaches : OneReaches unit most view valid ready positive ran reached one) (refused_reaches : RefusedReaches unit most view stands valid ready reached refused) where
     -- the chunks of a read were made
     pub record ReadMade (at : ℕ) (bytes : List ℕ) (a b : S) : Type 0 where
       pub accesses : List Access
       pub spell : SpellsRead unit at bytes accesses
       pub is_one : IsOneAccess at (length bytes) accesses
       pub path : reached (view a) accesses (view b)
+      pub behind_a_step : positive a → 0 < length bytes → StepsFirst ran reached (view a) accesses (view b)
       pub still_valid : valid b
       pub still_ready : ready b
       pub still_positive : positive a → positive b
@@ -151,6 +153,7 @@ module _ (unit most : ℕ) (sizes : ArePortSizes unit most) where
           spell = are;
           is_one = λ even count. absurd (let none : length bytes ≡ 0 = ap (λ (l : List ℕ). length l) are in omega arith);
           path = reached_none (view a);
+          behind_a_step = λ pos some. absurd (let none : length bytes ≡ 0 = ap (λ (l : List ℕ). length l) are in omega arith);
           still_valid = ok;
           still_ready = now;
           still_positive = λ p. p;
@@ -168,6 +171,7 @@ module _ (unit most : ℕ) (sizes : ArePortSizes unit most) where
           spell = step-joins unit most at bytes place got reach.accesses rest.accesses sizes step asked.whole reach.spell rest.spell;
           is_one = step-one unit most at bytes place got reach.accesses rest.accesses sizes step reach.spell rest.spell;
           path = reached_then (view a) (view made.0) (view b) reach.accesses rest.accesses reach.path rest.path;
+          behind_a_step = λ pos some. steps-then ran reached reached_then (view a) (view made.0) (view b) reach.accesses rest.accesses (reach.behind_a_step pos) rest.path;
           still_valid = rest.still_valid;
           still_ready = rest.still_ready;
           still_positive = λ p. rest.still_positive (reach.still_positive p);

@@ -10,8 +10,8 @@ use Rattle.chunk_memory.specs.Steps.{WriteStep, ReadNext, WriteNext}
 use Rattle.chunk_memory.specs.Transactions.{Chunk, ReadChunk, WriteChunk, Made}
 use Rattle.chunk_memory.specs.declared.stops.PortStop.{PortStop}
 
-module _ (unit most : ℕ) (sizes : ArePortSizes unit most) {S V : Type 0} (view : S → V) (valid ready positive : S → Type 0) (reached : V → List Access → V → Type 0)
-    (one : S → Chunk → S → Type 0) (refused : S → Chunk → PortStop → S → Type 0) (one_reaches : OneReaches unit most view valid ready positive reached one) where
+module _ (unit most : ℕ) (sizes : ArePortSizes unit most) {S V : Type 0} (view : S → V) (valid ready positive : S → Type 0) (ran : V → ℕ → V → Type 0) (reached : V → List Access → V → Type 0)
+    (one : S → Chunk → S → Type 0) (refused : S → Chunk → PortStop → S → Type 0) (one_reaches : OneReaches unit most view valid ready positive ran reached one) where
   -- ready, and every pause positive
   abbrev pub Calm : S → S → Type 0
   Calm a b = ready a → positive a → ready b × positive b

@@ -15,7 +15,8 @@ use Rattle.chunk_memory.specs.BeatLaws.{eight-of}
 use Rattle.chunk_memory.specs.Ports.{IsChunk, ArePortSizes}
 use Rattle.chunk_memory.specs.Ranges.{IsMappedRange}
 use Rattle.chunk_memory.specs.Reached.{OneReaches, RefusedReaches, IsNoCommand, AsksSame}
-use Rattle.chunk_memory.specs.Spelling.{IsPiece, StoresPiece, MergesPiece, SpellsRead, SpellsWrite, SpellsChunk, IsOneAccess, place_of, stored_at, stored_bytes, StoredFits}
+use Rattle.chunk_memory.proofs.ReachLemmas.{steps-then}
+use Rattle.chunk_memory.specs.Spelling.{IsPiece, StoresPiece, MergesPiece, SpellsRead, SpellsWrite, SpellsChunk, IsOneAccess, StepsFirst, place_of, stored_at, stored_bytes, StoredFits}
 use Rattle.chunk_memory.specs.Transactions.{Chunk, ReadChunk, WriteChunk, begins_in_part, chunk_size, step_size, WholeStep, PartStep, WriteChunks, Made}
 use Rattle.chunk_memory.specs.declared.stops.PortStop.{PortStop}
 
@@ -395,15 +396,16 @@ module _ (unit most : ℕ) (sizes : ArePortSizes unit most) where
       (subst (λ (n : ℕ). SpellsWrite unit 8 n put zs) step.place_is written) more in
       subst (λ (l : List Access). SpellsWrite unit unit at bytes ((l ++ zs) ++ ys)) (sym load.is) spelled
 
-  module _ {S V : Type 0} (view : S → V) (stands : S → V → Type 0) (valid ready positive : S → Type 0) (reached : V → List Access → V → Type 0) (one : S → Chunk → S → Type 0) (refused : S → Chunk → PortStop → S → Type 0)
+  module _ {S V : Type 0} (view : S → V) (stands : S → V → Type 0) (valid ready positive : S → Type 0) (ran : V → ℕ → V → Type 0) (reached : V → List Access → V → Type 0) (one : S → Chunk → S → Type 0) (refused : S → Chunk → PortStop → S → Type 0)
       (reached_none : (v : V) → reached v [] v) (reached_then : (u v w : V) (xs ys : List Access) → reached u xs v → reached v ys w → reached u (xs ++ ys) w)
-      (one_reaches : OneReaches unit most view valid ready positive reached one) (refused_reaches : RefusedReaches unit most view stands valid ready reached refused) where
+      (one_reaches : OneReaches unit most view valid ready positive ran reached one) (refused_reaches : RefusedReaches unit most view stands valid ready reached refused) where
     -- the chunks of a write were made
     pub record WriteMade (at : ℕ) (bytes : List ℕ) (a b : S) : Type 0 where
       pub accesses : List Access
       pub spell : SpellsWrite unit unit at bytes accesses
       pub is_one : IsOneAccess at (length bytes) accesses
       pub path : reached (view a) accesses (view b)
+      pub behind_a_step : positive a → 0 < length bytes → StepsFirst ran reached (view a) accesses (view b)
       pub still_valid : valid b
       pub still_ready : ready b
       pub still_positive : positive a → positive b
@@ -418,6 +420,7 @@ module _ (unit most : ℕ) (sizes : ArePortSizes unit most) where
           spell = are;
           is_one = λ even count. absurd (let none : length bytes ≡ 0 = ap (λ (l : List ℕ). length l) are in omega arith);
           path = reached_none (view a);
+          behind_a_step = λ pos some. absurd (let none : length bytes ≡ 0 = ap (λ (l : List ℕ). length l) are in omega arith);
           still_valid = ok;
           still_ready = now;
           still_positive = λ p. p;
@@ -435,6 +438,7 @@ module _ (unit most : ℕ) (sizes : ArePortSizes unit most) where
           spell = whole-joins at bytes place put reach.accesses rest.accesses step asked.whole reach.spell rest.spell;
           is_one = write-one at bytes place put reach.accesses rest.accesses step reach.spell rest.spell;
           path = reached_then (view a) (view made.0) (view b) reach.accesses rest.accesses reach.path rest.path;
+          behind_a_step = λ pos some. steps-then ran reached reached_then (view a) (view made.0) (view b) reach.accesses rest.accesses (reach.behind_a_step pos) rest.path;
           still_valid = rest.still_valid;
           still_ready = rest.still_ready;
           still_positive = λ p. rest.still_positive (reach.still_positive p);
@@ -455,6 +459,8 @@ module _ (unit most : ℕ) (sizes : ArePortSizes unit most) where
           is_one = part-none at (length bytes) ((first.accesses ++ second.accesses) ++ rest.accesses) step.part;
           path = reached_then (view a) (view made.2.0) (view b) (first.accesses ++ second.accesses) rest.accesses
               (reached_then (view a) (view made.0) (view made.2.0) first.accesses second.accesses first.path second.path) rest.path;
+          behind_a_step = λ pos some. steps-then ran reached reached_then (view a) (view made.2.0) (view b) (first.accesses ++ second.accesses) rest.accesses
+              (steps-then ran reached reached_then (view a) (view made.0) (view made.2.0) first.accesses second.accesses (first.behind_a_step pos) second.path) rest.path;
           still_valid = rest.still_valid;
           still_ready = rest.still_ready;
           still_positive = λ p. rest.still_positive (second.still_positive (first.still_positive p));

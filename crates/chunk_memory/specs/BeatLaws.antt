@@ -11,7 +11,7 @@ use Rattle.chunk_memory.specs.BeatChunks.{bytes_of, AreDoublewords, BeatsRead, B
 use Rattle.chunk_memory.specs.Ports.{ArePortSizes}
 use Rattle.chunk_memory.specs.Ranges.{IsMappedRange}
 use Rattle.chunk_memory.specs.Reached.{Reached, ChunkBegun, OneReaches, RefusedReaches, IsNoCommand}
-use Rattle.chunk_memory.specs.Spelling.{IsPiece, LoadsPiece, StoresPiece, SpellsRead, SpellsWrite}
+use Rattle.chunk_memory.specs.Spelling.{StepsFirst, IsPiece, LoadsPiece, StoresPiece, SpellsRead, SpellsWrite}
 use Rattle.chunk_memory.specs.Transactions.{ReadChunk, WriteChunk}
 use Rattle.chunk_memory.specs.declared.stops.PortStop.{PortStop}
 use Rattle.chunk_memory.specs.declared.stops.PortStop.TheVariants.{Spent, WireFault, CmdErr}
@@ -112,6 +112,14 @@ stores-spell at (value ∷ more) even fit = (
   subst (λ (l : List ℕ). SpellsWrite 8 8 (at + 8) l (stores (at + 8) more)) (sym (drop_at (to_le_bytes w64 value) (bytes_of more) 8 (eight-of value))) (stores-spell (at + 8) more (omega arith) fit.1),
 )
 
+length-loads : (at : ℕ) (values : List ℕ) → length (loads at values) ≡ length values
+length-loads at [] = refl
+length-loads at (value ∷ more) = ap suc (length-loads (at + 8) more)
+
+length-stores : (at : ℕ) (values : List ℕ) → length (stores at values) ≡ length values
+length-stores at [] = refl
+length-stores at (value ∷ more) = ap suc (length-stores (at + 8) more)
+
 -- ---- a mapped doubleword may be asked for
 -- a part of a mapped range is mapped
 pub mapped-behind : (at count done : ℕ) → IsMappedRange at count → done ≤ count → IsMappedRange (at + done) (count - done)
@@ -140,17 +148,21 @@ module _ {V : Type 0} (ran : V → ℕ → V → Type 0) (touched : V → Access
   reached-cut u w [] ys r = (u, (0, ran_none u), r)
   reached-cut u w (x ∷ xs) ys r = let rest = reached-cut r.2 w xs ys r.5 in (rest.0, (r.0, r.1, r.2, r.3, r.4, rest.1), rest.2)
 
+  pub ran-reaches : (u v : V) (n : ℕ) → ran u n v → Reached ran touched u [] v
+  ran-reaches u v n r = (n, r)
+
   pub reached-none : (v : V) → Reached ran touched v [] v
   reached-none v = (0, ran_none v)
 
   module _ {S : Type 0} (view : S → V) (valid positive : S → Type 0) (next : S → Beat → S × ℕ) where
-    -- a beat that was answered is some steps and its access
+    -- a beat that was answered is some steps, at least one where every pause is positive, and its access
     pub record TurnMade (before : S) (ask : Beat) (reply : ℕ) (after : S) : Type 0 where
       pub steps : ℕ
       pub between : V
       pub pause : ran (view before) steps between
       pub access : touched between (beat_access ask reply) (view after)
       pub still_valid : valid after
+      pub some_step : positive before → 0 < steps
       pub still_positive : positive before → positive after
 
     abbrev pub TurnsMake : Type 0
@@ -160,23 +172,31 @@ module _ {V : Type 0} (ran : V → ℕ → V → Type 0) (touched : V → Access
     turns-make law before after ask reply ok asked e =
         let t = law before ask ok asked in
         let here : TurnMade before ask (next before ask).1 (next before ask).0 =
-        record { steps = t.steps; between = t.between; pause = t.pause; access = t.access; still_valid = t.still_valid; still_positive = t.still_positive } in
+        record { steps = t.steps; between = t.between; pause = t.pause; access = t.access; still_valid = t.still_valid; some_step = t.some_step; still_positive = t.still_positive } in
         subst (λ (p : S × ℕ). TurnMade before ask p.1 p.0) e here
 
-    -- beats lead from view to view by their accesses
+    -- beats lead from view to view by their accesses, behind a step where every pause is positive
     pub record BeatsReach (before : S) (accesses : List Access) (after : S) : Type 0 where
       pub path : Reached ran touched (view before) accesses (view after)
+      pub behind_a_step : positive before → 0 < length accesses → StepsFirst ran (Reached ran touched) (view before) accesses (view after)
       pub still_valid : valid after
       pub still_positive : positive before → positive after
 
     no-beats : (before after : S) → after ≡ before → valid before → BeatsReach before [] after
     no-beats before after same ok =
-        let here : BeatsReach before [] before = record { path = reached-none (view before); still_valid = ok; still_positive = λ p. p } in
+        let here : BeatsReach before [] before = record { path = reached-none (view before); behind_a_step = λ p some. absurd (omega arith); still_valid = ok; still_positive = λ p. p } in
         subst (λ (s : S). BeatsReach before [] s) (sym same) here
 
     beat-first : (before between after : S) (ask : Beat) (reply : ℕ) (more : List Access) → TurnMade before ask reply between → BeatsReach between more after → BeatsReach before (beat_access ask reply ∷ more) after
     beat-first before between after ask reply more turn rest = record {
       path = (turn.steps, turn.between, view between, turn.pause, turn.access, rest.path);
+      behind_a_step = λ p some. record {
+        steps = turn.steps;
+        some = turn.some_step p;
+        first = turn.between;
+        ran_so = turn.pause;
+        path = (0, turn.between, view between, ran_none turn.between, turn.access, rest.path);
+      };
       still_valid = rest.still_valid;
       still_positive = λ p. rest.still_positive (turn.still_positive p);
     }
@@ -201,7 +221,7 @@ module _ {V : Type 0} (ran : V → ℕ → V → Type 0) (touched : V → Access
           beat-first before made.0 after (WriteBeat at value) 0 (stores (at + 8) more) turn (beats-written (at + 8) more made.0 after turn.still_valid (omega arith) rest fit.1 made.2)
 
       -- a chunk that was made
-      pub direct-one : OneReaches 8 1024 view valid (λ _. Unit {0}) positive (Reached ran touched) (DirectOne next)
+      pub direct-one : OneReaches 8 1024 view valid (λ _. Unit {0}) positive ran (Reached ran touched) (DirectOne next)
       direct-one before after (ReadChunk at bytes) ok ready asked one =
           let count : length bytes ≡ 8 * length one.values = ap (λ (l : List ℕ). length l) one.bytes_are ∙ length-bytes_of one.values in
           let reach = beats-read at one.values before after ok asked.aligned (subst (λ (n : ℕ). IsMappedRange at n) count asked.mapped) one.made in
@@ -209,6 +229,7 @@ module _ {V : Type 0} (ran : V → ℕ → V → Type 0) (touched : V → Access
             accesses = loads at one.values;
             spell = subst (λ (l : List ℕ). SpellsRead 8 at l (loads at one.values)) (sym one.bytes_are) (loads-spell at one.values asked.aligned one.fit);
             path = reach.path;
+            behind_a_step = λ p. reach.behind_a_step p (omega (arith, asked.some, count, length-loads at one.values));
             still_valid = reach.still_valid;
             still_ready = tt;
             still_positive = reach.still_positive;
@@ -220,6 +241,7 @@ module _ {V : Type 0} (ran : V → ℕ → V → Type 0) (touched : V → Access
             accesses = stores at one.values;
             spell = subst (λ (l : List ℕ). SpellsWrite 8 8 at l (stores at one.values)) (sym one.bytes_are) (stores-spell at one.values asked.aligned one.fit);
             path = reach.path;
+            behind_a_step = λ p. reach.behind_a_step p (omega (arith, asked.some, count, length-stores at one.values));
             still_valid = reach.still_valid;
             still_ready = tt;
             still_positive = reach.still_positive;

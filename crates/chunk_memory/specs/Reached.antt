@@ -2,7 +2,7 @@
 use Rattle.std.specs.Prelude.{◌≡◌, ℕ, List, [], ◌∷◌, ◌++◌, length}
 use Rattle.fe_base.specs.Access.{Access}
 use Rattle.chunk_memory.specs.Ports.{IsChunk}
-use Rattle.chunk_memory.specs.Spelling.{SpellsChunk}
+use Rattle.chunk_memory.specs.Spelling.{SpellsChunk, StepsFirst}
 use Rattle.chunk_memory.specs.Transactions.{Chunk, ReadChunk, WriteChunk}
 use Rattle.chunk_memory.specs.declared.stops.PortStop.{PortStop}
 use Rattle.chunk_memory.specs.declared.stops.PortStop.TheVariants.{Spent, WireFault, CmdErr}
@@ -31,11 +31,12 @@ IsNoCommand Spent = Unit {0}
 IsNoCommand WireFault = Unit {0}
 IsNoCommand (CmdErr number) = ⊥
 
--- a chunk that was made: from view to view by its accesses
-pub record ChunkReached {S V : Type 0} (unit : ℕ) (view : S → V) (valid ready positive : S → Type 0) (reached : V → List Access → V → Type 0) (chunk : Chunk) (before after : S) : Type 0 where
+-- a chunk that was made: from view to view by its accesses, behind a step of the hart where every pause is positive
+pub record ChunkReached {S V : Type 0} (unit : ℕ) (view : S → V) (valid ready positive : S → Type 0) (ran : V → ℕ → V → Type 0) (reached : V → List Access → V → Type 0) (chunk : Chunk) (before after : S) : Type 0 where
   pub accesses : List Access
   pub spell : SpellsChunk unit chunk accesses
   pub path : reached (view before) accesses (view after)
+  pub behind_a_step : positive before → StepsFirst ran reached (view before) accesses (view after)
   pub still_valid : valid after
   pub still_ready : ready after
   pub still_positive : positive before → positive after
@@ -53,10 +54,10 @@ pub record ChunkBegun {S V : Type 0} (unit : ℕ) (view : S → V) (stands : S �
   pub stands_so : stands after last
 
 -- what a port owes of each chunk that is made
-abbrev pub OneReaches : {S V : Type 0} → ℕ → ℕ → (S → V) → (S → Type 0) → (S → Type 0) → (S → Type 0) → (V → List Access → V → Type 0) → (S → Chunk → S → Type 0) → Type 0
-OneReaches {S} unit most view valid ready positive reached one =
+abbrev pub OneReaches : {S V : Type 0} → ℕ → ℕ → (S → V) → (S → Type 0) → (S → Type 0) → (S → Type 0) → (V → ℕ → V → Type 0) → (V → List Access → V → Type 0) → (S → Chunk → S → Type 0) → Type 0
+OneReaches {S} unit most view valid ready positive ran reached one =
     (before after : S) (chunk : Chunk) → valid before → ready before → IsAsked unit most chunk → one before chunk after
-    → ChunkReached unit view valid ready positive reached chunk before after
+    → ChunkReached unit view valid ready positive ran reached chunk before after
 
 -- what a port owes of each chunk that is refused
 abbrev pub RefusedReaches : {S V : Type 0} → ℕ → ℕ → (S → V) → (S → V → Type 0) → (S → Type 0) → (S → Type 0) → (V → List Access → V → Type 0) → (S → Chunk → PortStop → S → Type 0) → Type 0

@@ -107,14 +107,23 @@ abbrev pub SpellsChunk : ℕ → Chunk → List Access → Type 0
 SpellsChunk unit (ReadChunk place bytes) accesses = SpellsRead 8 place bytes accesses
 SpellsChunk unit (WriteChunk place bytes) accesses = SpellsWrite unit 8 place bytes accesses
 
-module _ {S V : Type 0} (view : S → V) (stands : S → V → Type 0) (ready : S → Type 0) (reached : V → List Access → V → Type 0) where
-  -- from view to view by exactly the accesses of a read, and the port is ready again
+-- accesses were made behind at least one step of the hart
+pub record StepsFirst {V : Type 0} (ran : V → ℕ → V → Type 0) (reached : V → List Access → V → Type 0) (before : V) (accesses : List Access) (after : V) : Type 0 where
+  pub steps : ℕ
+  pub some : 0 < steps
+  pub first : V
+  pub ran_so : ran before steps first
+  pub path : reached first accesses after
+
+module _ {S V : Type 0} (view : S → V) (stands : S → V → Type 0) (ready positive : S → Type 0) (ran : V → ℕ → V → Type 0) (reached : V → List Access → V → Type 0) where
+  -- from view to view by exactly the accesses of a read, behind a step of the hart where every pause is positive, and the port is ready again
   pub record ReadWhole (unit at count : ℕ) (bytes : List ℕ) (before after : S) : Type 0 where
     pub size : length bytes ≡ count
     pub accesses : List Access
     pub spell : SpellsRead unit at bytes accesses
     pub is_one : IsOneAccess at count accesses
     pub path : reached (view before) accesses (view after)
+    pub behind_a_step : positive before → 0 < count → StepsFirst ran reached (view before) accesses (view after)
     pub still : ready after
 
   -- from view to view by the first ones of the accesses of a read; where the hart is not halted, the last view is that of the state
@@ -137,12 +146,13 @@ module _ {S V : Type 0} (view : S → V) (stands : S → V → Type 0) (ready : 
   ReadSpelled unit at count (Err WireFault) before after = ReadUntil unit at count before after
   ReadSpelled unit at count (Err (CmdErr number)) before after = ⊥
 
-  -- from view to view by exactly the accesses of a write, and the port is ready again
+  -- from view to view by exactly the accesses of a write, behind a step of the hart where every pause is positive, and the port is ready again
   pub record WriteWhole (unit at : ℕ) (bytes : List ℕ) (before after : S) : Type 0 where
     pub accesses : List Access
     pub spell : SpellsWrite unit unit at bytes accesses
     pub is_one : IsOneAccess at (length bytes) accesses
     pub path : reached (view before) accesses (view after)
+    pub behind_a_step : positive before → 0 < length bytes → StepsFirst ran reached (view before) accesses (view after)
     pub still : ready after
 
   -- from view to view by the first ones of the accesses of a write

@@ -1,5 +1,5 @@
 // Guest memory by ranges.
-ghost use Rattle.std.specs.Prelude.{◌≡◌, ◌≤◌, ◌<◌, ◌+◌, ◌-◌, ◌%◌, ℕ, true, false, length, IfOk, IsErrOf};
+ghost use Rattle.std.specs.Prelude.{◌≡◌, ◌≤◌, ◌<◌, ◌+◌, ◌-◌, ◌%◌, ℕ, true, false, length, IfOk, IsErrOf, IsOk};
 ghost use Rattle.std.specs.Int.{to_le_bytes, w64};
 ghost use Rattle.std.specs.Result.{result_err};
 ghost use Rattle.fe_base.specs.Wires.{OnTold};
@@ -74,10 +74,11 @@ impl<P: ChunkPort> Chunked<P> {
         ensures told { OnTold (P.told self.old) (P.told self.new)
             (ReadsRange P.one P.refused P.unit P.most at (length into.old) (with_bytes result into.new)) }
         ensures reached { OnTold (P.told self.old) (P.told self.new)
-            (λ a b. P.ready a → ReadSpelled P.view P.stands P.ready P.reached P.unit at (length into.old)
+            (λ a b. P.ready a → ReadSpelled P.view P.stands P.ready P.positive P.ran P.reached P.unit at (length into.old)
             (with_bytes result into.new) a b) }
         ensures unmapped { (place : ℕ) → IsErrOf result (MemStop.Unmapped place) → self.new ≡ self.old }
         ensures empty { length into.old ≡ 0 → self.new ≡ self.old }
+        ensures empty_done { length into.old ≡ 0 → IsOk result }
     {
         if let Some(place) = first_unmapped(at, into.len()) {
             return Err(MemStop::Unmapped(place));
@@ -102,9 +103,10 @@ impl<P: ChunkPort> Chunked<P> {
         ensures told { OnTold (P.told self.old) (P.told self.new)
             (WritesRange P.one P.refused P.unit P.most at from.now result) }
         ensures reached { OnTold (P.told self.old) (P.told self.new)
-            (λ a b. P.ready a → WriteSpelled P.view P.stands P.ready P.reached P.unit at from.now result a b) }
+            (λ a b. P.ready a → WriteSpelled P.view P.stands P.ready P.positive P.ran P.reached P.unit at from.now result a b) }
         ensures unmapped { (place : ℕ) → IsErrOf result (MemStop.Unmapped place) → self.new ≡ self.old }
         ensures empty { length from.now ≡ 0 → self.new ≡ self.old }
+        ensures empty_done { length from.now ≡ 0 → IsOk result }
     {
         if let Some(place) = first_unmapped(at, from.len()) {
             return Err(MemStop::Unmapped(place));
@@ -129,7 +131,7 @@ impl<P: ChunkPort> Chunked<P> {
         ensures told { OnTold (P.told self.old) (P.told self.new)
             (ReadsRange P.one P.refused P.unit P.most at 8 (word_bytes result)) }
         ensures reached { OnTold (P.told self.old) (P.told self.new)
-            (λ a b. P.ready a → ReadSpelled P.view P.stands P.ready P.reached P.unit at 8 (word_bytes result) a b) }
+            (λ a b. P.ready a → ReadSpelled P.view P.stands P.ready P.positive P.ran P.reached P.unit at 8 (word_bytes result) a b) }
         ensures unmapped { (place : ℕ) → IsErrOf result (MemStop.Unmapped place) → self.new ≡ self.old }
     {
         let mut bytes = [0; 8];
@@ -151,7 +153,7 @@ impl<P: ChunkPort> Chunked<P> {
         ensures told { OnTold (P.told self.old) (P.told self.new)
             (WritesRange P.one P.refused P.unit P.most at (to_le_bytes w64 value) result) }
         ensures reached { OnTold (P.told self.old) (P.told self.new)
-            (λ a b. P.ready a → WriteSpelled P.view P.stands P.ready P.reached P.unit at (to_le_bytes w64 value) result a b) }
+            (λ a b. P.ready a → WriteSpelled P.view P.stands P.ready P.positive P.ran P.reached P.unit at (to_le_bytes w64 value) result a b) }
         ensures unmapped { (place : ℕ) → IsErrOf result (MemStop.Unmapped place) → self.new ≡ self.old }
     {
         self.write(at, &value.to_le_bytes())
@@ -171,6 +173,7 @@ impl<P: ChunkPort> Chunked<P> {
         ensures told { OnTold (P.told self.old) (P.told self.new)
             (Reads P.one P.refused P.unit P.most at (length into.old) (with_bytes result into.new)) }
         ensures empty { length into.old ≡ 0 → self.new ≡ self.old }
+        ensures empty_done { length into.old ≡ 0 → IsOk result }
     {
         let mut done = 0;
         while done < into.len() {
@@ -194,6 +197,7 @@ impl<P: ChunkPort> Chunked<P> {
         ensures told { OnTold (P.told self.old) (P.told self.new)
             (Writes P.one P.refused P.unit P.most at from.now result) }
         ensures empty { length from.now ≡ 0 → self.new ≡ self.old }
+        ensures empty_done { length from.now ≡ 0 → IsOk result }
     {
         let mut done = 0;
         while done < from.len() {

@@ -1,5 +1,5 @@
 // A port by a wire that moves doublewords.
-ghost use Rattle.std.specs.Prelude.{◌≡◌, ◌≤◌, ◌+◌, ◌/◌, ℕ, [], length, IfOk, OnOk};
+ghost use Rattle.std.specs.Prelude.{◌≡◌, ◌≤◌, ◌<◌, ◌+◌, ◌/◌, ℕ, [], Some, length, IfOk, OnOk};
 ghost use Rattle.std.specs.Result.{result_err};
 ghost use Rattle.fe_base.specs.Wires.{OnTold};
 ghost use Rattle.chunk_memory.specs.BeatChunks.{DirectOne, DirectRefused, of_wire, wire_counts};
@@ -69,6 +69,7 @@ fn read_beats<W: BeatWire>(wire: &mut W, at: u64, into: &mut [u8]) -> Result<(),
         (ChunkRead (DirectOne W.next) (DirectRefused W.next W.lost) at into.new result) }
     ensures exact { OnOk result (W.left wire.old ≡ W.left wire.new + length into.old / 8) }
     ensures most { W.left wire.old ≤ W.left wire.new + length into.old / 8 }
+    ensures spent { result_err result ≡ Some PortStop.Spent → W.left wire.old < length into.old / 8 }
 {
     let mut done = 0;
     while done < into.len() {
@@ -97,6 +98,7 @@ fn write_beats<W: BeatWire>(wire: &mut W, at: u64, from: &[u8]) -> Result<(), Po
         (ChunkWritten (DirectOne W.next) (DirectRefused W.next W.lost) at from.now result) }
     ensures exact { OnOk result (W.left wire.old ≡ W.left wire.new + length from.now / 8) }
     ensures most { W.left wire.old ≤ W.left wire.new + length from.now / 8 }
+    ensures spent { result_err result ≡ Some PortStop.Spent → W.left wire.old < length from.now / 8 }
 {
     let mut done = 0;
     while done < from.len() {
@@ -109,7 +111,7 @@ fn write_beats<W: BeatWire>(wire: &mut W, at: u64, from: &[u8]) -> Result<(), Po
 
 impl<W: BeatWire> ChunkPort for DirectPort<W> {
     ghost use Rattle.chunk_memory.specs.Reached.{Reached};
-    ghost use Rattle.chunk_memory.specs.BeatLaws.{direct_sizes, reached-none, reached-then, reached-cut, direct-one, direct-refused, turns-make};
+    ghost use Rattle.chunk_memory.specs.BeatLaws.{direct_sizes, ran-reaches, reached-none, reached-then, reached-cut, direct-one, direct-refused, turns-make};
 
     ghost State = { W.State };
 
@@ -145,6 +147,8 @@ impl<W: BeatWire> ChunkPort for DirectPort<W> {
 
     ghost refused = { DirectRefused W.next W.lost };
 
+    ghost ran = { W.ran };
+
     ghost reached = { Reached W.ran W.touched };
 
     fn align(&self) -> usize {
@@ -172,6 +176,7 @@ impl<W: BeatWire> ChunkPort for DirectPort<W> {
             (ChunkRead (DirectOne W.next) (DirectRefused W.next W.lost) at into.new result) }
         ensures exact { OnOk result (W.left self.old ≡ W.left self.new + length into.old / 8) }
         ensures most { W.left self.old ≤ W.left self.new + length into.old / 8 }
+        ensures spent { result_err result ≡ Some PortStop.Spent → W.left self.old < length into.old / 8 }
     {
         read_beats(&mut self.wire, at, into)
     }
@@ -193,6 +198,7 @@ impl<W: BeatWire> ChunkPort for DirectPort<W> {
             (ChunkWritten (DirectOne W.next) (DirectRefused W.next W.lost) at from.now result) }
         ensures exact { OnOk result (W.left self.old ≡ W.left self.new + length from.now / 8) }
         ensures most { W.left self.old ≤ W.left self.new + length from.now / 8 }
+        ensures spent { result_err result ≡ Some PortStop.Spent → W.left self.old < length from.now / 8 }
     {
         write_beats(&mut self.wire, at, from)
     }
@@ -200,6 +206,8 @@ impl<W: BeatWire> ChunkPort for DirectPort<W> {
     ghost sizes = { direct_sizes };
 
     ghost tells_valid = { W.tells_valid };
+
+    ghost ran_reaches = { ran-reaches W.ran W.touched W.ran_none W.ran_more };
 
     ghost reached_none = { reached-none W.ran W.touched W.ran_none W.ran_more };
 

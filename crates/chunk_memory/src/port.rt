@@ -64,6 +64,9 @@ pub trait ChunkPort {
     /// What a chunk did to the state that was refused. Of a chunk to be read the bytes are any.
     ghost refused: { State → Chunk → Stop → State → Type 0 };
 
+    /// So many steps of the hart were made, none of them halted and none a debug job.
+    ghost ran: { View → ℕ → View → Type 0 };
+
     /// These accesses were made, with steps of the hart between them.
     ghost reached: { View → List Access → View → Type 0 };
 
@@ -109,6 +112,9 @@ pub trait ChunkPort {
     /// A usable port's told state is a valid one.
     ghost tells_valid: { (port : Self) → usable port → IfTold (told port) valid };
 
+    /// Steps are made without an access.
+    ghost ran_reaches: { (u v : View) (n : ℕ) → ran u n v → reached u [] v };
+
     /// No access leads from a view to itself.
     ghost reached_none: { (v : View) → reached v [] v };
 
@@ -120,8 +126,8 @@ pub trait ChunkPort {
     ghost reached_cut: { (u w : View) (xs ys : List Access) → reached u (xs ++ ys) w
         → (v : View) × reached u xs v × reached v ys w };
 
-    /// A chunk that is made leads from view to view by its accesses.
-    ghost one_reaches: { OneReaches unit most view valid ready positive reached one };
+    /// A chunk that is made leads from view to view by its accesses, behind a step where every pause is positive.
+    ghost one_reaches: { OneReaches unit most view valid ready positive ran reached one };
 
     /// One that is refused leads there by the first ones of its accesses.
     ghost refused_reaches: { RefusedReaches unit most view stands valid ready reached refused };

@@ -55,7 +55,7 @@ impl ChunkPort for RamPort<'_> {
     ghost use Rattle.chunk_memory.specs.BeatChunks.{DirectOne};
     ghost use Rattle.chunk_memory.specs.RamTurns.{ram_ran, ram_touched};
     ghost use Rattle.chunk_memory.specs.Reached.{Reached};
-    ghost use Rattle.chunk_memory.specs.BeatLaws.{direct_sizes, reached-none, reached-then, reached-cut};
+    ghost use Rattle.chunk_memory.specs.BeatLaws.{direct_sizes, ran-reaches, reached-none, reached-then, reached-cut};
     ghost use Rattle.chunk_memory.specs.RamLaws.{ram-none, ram-more, ram-one, ram-refused};
 
     ghost State = { BusState };
@@ -82,7 +82,7 @@ impl ChunkPort for RamPort<'_> {
 
     ghost ready = { λ _. Unit {0} };
 
-    ghost positive = { λ _. Unit {0} };
+    ghost positive = { λ _. ⊥ };
 
     ghost view = { λ s. s };
 
@@ -91,6 +91,8 @@ impl ChunkPort for RamPort<'_> {
     ghost one = { DirectOne ram_turn };
 
     ghost refused = { λ before chunk stop after. ⊥ };
+
+    ghost ran = { ram_ran };
 
     ghost reached = { Reached ram_ran ram_touched };
 
@@ -115,6 +117,8 @@ impl ChunkPort for RamPort<'_> {
     ghost sizes = { direct_sizes };
 
     ghost tells_valid = { λ port usable. tt };
+
+    ghost ran_reaches = { ran-reaches ram_ran ram_touched ram-none ram-more };
 
     ghost reached_none = { reached-none ram_ran ram_touched ram-none ram-more };
 

@@ -18,8 +18,8 @@ returns-in-Ok-clause-reached g c =
     let count : ℕ = length c.args.into.now in
     let mapped : IsMappedRange at count = search rules in
     let bytes : List ℕ = c.read_mapped.new.into in
-    told-valid (P.told c.args.self.now) (P.told c.read_mapped.new.self) P.valid (Reads P.one P.refused P.unit P.most at count (Ok bytes)) (λ a b. P.ready a → ReadWhole P.view P.stands P.ready P.reached P.unit at count bytes a b) (laws.tells_valid c.args.self.now c.requires)
-    (λ a b ok w now. read-spelled P.unit P.most laws.sizes P.view P.stands P.valid P.ready P.positive P.reached P.one P.refused laws.reached_none laws.reached_then laws.one_reaches laws.refused_reaches at count bytes a b ok now mapped w) c.in-Ok.ensures.told
+    told-valid (P.told c.args.self.now) (P.told c.read_mapped.new.self) P.valid (Reads P.one P.refused P.unit P.most at count (Ok bytes)) (λ a b. P.ready a → ReadWhole P.view P.stands P.ready P.positive P.ran P.reached P.unit at count bytes a b) (laws.tells_valid c.args.self.now c.requires)
+    (λ a b ok w now. read-spelled P.unit P.most laws.sizes P.view P.stands P.valid P.ready P.positive P.ran P.reached P.one P.refused laws.reached_none laws.reached_then laws.one_reaches laws.refused_reaches at count bytes a b ok now mapped w) c.in-Ok.ensures.told
 
 pub returns-in-Err-clause-reached : goal.returns-in-Err-clause-reached
 returns-in-Err-clause-reached g c =
@@ -29,6 +29,6 @@ returns-in-Err-clause-reached g c =
     let count : ℕ = length c.args.into.now in
     let mapped : IsMappedRange at count = search rules in
     let stop : PortStop = c.in-Err.stop in
-    subst (λ (s : MemStop). OnTold (P.told c.args.self.now) (P.told c.read_mapped.new.self) (λ a b. P.ready a → ReadSpelled P.view P.stands P.ready P.reached P.unit at count (Err s) a b)) (sym c.mem_stop.ensures)
-    (told-valid (P.told c.args.self.now) (P.told c.read_mapped.new.self) P.valid (Reads P.one P.refused P.unit P.most at count (Err stop)) (λ a b. P.ready a → ReadSpelled P.view P.stands P.ready P.reached P.unit at count (Err (of_port stop)) a b) (laws.tells_valid c.args.self.now c.requires)
-    (λ a b ok w now. read-refused-spelled P.unit P.most laws.sizes P.view P.stands P.valid P.ready P.positive P.reached P.one P.refused laws.reached_none laws.reached_then laws.one_reaches laws.refused_reaches at count stop a b ok now mapped w) c.in-Err.ensures.told)
+    subst (λ (s : MemStop). OnTold (P.told c.args.self.now) (P.told c.read_mapped.new.self) (λ a b. P.ready a → ReadSpelled P.view P.stands P.ready P.positive P.ran P.reached P.unit at count (Err s) a b)) (sym c.mem_stop.ensures)
+    (told-valid (P.told c.args.self.now) (P.told c.read_mapped.new.self) P.valid (Reads P.one P.refused P.unit P.most at count (Err stop)) (λ a b. P.ready a → ReadSpelled P.view P.stands P.ready P.positive P.ran P.reached P.unit at count (Err (of_port stop)) a b) (laws.tells_valid c.args.self.now c.requires)
+    (λ a b ok w now. read-refused-spelled P.unit P.most laws.sizes P.view P.stands P.valid P.ready P.positive P.ran P.reached P.one P.refused laws.reached_none laws.reached_then laws.one_reaches laws.refused_reaches at count stop a b ok now mapped w) c.in-Err.ensures.told)

@@ -62,7 +62,7 @@ loop-done-preserved g c =
       calm = told-then (P.told c.args.self.now) (P.told c.loop-done.self) (P.told c.read_next.new.self) (λ a m. P.ready a → P.positive a → P.ready m × P.positive m) (λ m n. P.ready m → P.positive m → P.ready n × P.positive n) (λ a n. P.ready a → P.positive a → P.ready n × P.positive n)
           (λ a m n so_far here now pos. let i = so_far now pos in here i.0 i.1) c.loop-done.invariant.calm
           (told-valid (P.told c.loop-done.self) (P.told c.read_next.new.self) P.valid (ReadNext P.one P.refused P.unit P.most (c.args.at + done) c.read_next.new.into (Ok size)) (λ m n. P.ready m → P.positive m → P.ready n × P.positive n) (laws.tells_valid c.loop-done.self c.loop-done.invariant.usable)
-          (λ m n ok here. read-calm P.unit P.most c.in_ok-size.ensures.sizes P.view P.valid P.ready P.positive P.reached P.one P.refused laws.one_reaches (c.args.at + done) size c.read_next.new.into m n ok rest_mapped here) c.in_ok-size.ensures.told);
+          (λ m n ok here. read-calm P.unit P.most c.in_ok-size.ensures.sizes P.view P.valid P.ready P.positive P.ran P.reached P.one P.refused laws.one_reaches (c.args.at + done) size c.read_next.new.into m n ok rest_mapped here) c.in_ok-size.ensures.told);
       turns = λ state told now pos.
           let m = told-next (P.told c.args.self.now) (P.told c.loop-done.self) (λ a b. P.ready a → P.positive a → P.ready b × P.positive b) state told c.loop-done.invariant.calm in
           let both = m.holds now pos in

@@ -21,4 +21,4 @@ returns-clause-told g c =
 pub returns-clause-reached : goal.returns-clause-reached
 returns-clause-reached g c =
     let P = g.P.ChunkPort in
-    subst (λ (l : List ℕ). OnTold (P.told c.args.self.now) (P.told c.read.new.self) (λ a b. P.ready a → ReadSpelled P.view P.stands P.ready P.reached P.unit c.args.at 8 (Ok l) a b)) (sym c.number_of.ensures) c.in_ok-read.ensures.reached
+    subst (λ (l : List ℕ). OnTold (P.told c.args.self.now) (P.told c.read.new.self) (λ a b. P.ready a → ReadSpelled P.view P.stands P.ready P.positive P.ran P.reached P.unit c.args.at 8 (Ok l) a b)) (sym c.number_of.ensures) c.in_ok-read.ensures.reached

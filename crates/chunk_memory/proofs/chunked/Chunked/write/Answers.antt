@@ -19,8 +19,8 @@ returns-in-Ok-clause-reached g c =
     let count : ℕ = length c.args.from.now in
     let mapped : IsMappedRange at count = search rules in
     let bytes : List ℕ = c.args.from.now in
-    told-valid (P.told c.args.self.now) (P.told c.write_mapped.new.self) P.valid (Writes P.one P.refused P.unit P.most at bytes (Ok tt)) (λ a b. P.ready a → WriteWhole P.view P.stands P.ready P.reached P.unit at bytes a b) (laws.tells_valid c.args.self.now c.requires)
-    (λ a b ok w now. write-spelled P.unit P.most laws.sizes P.view P.stands P.valid P.ready P.positive P.reached P.one P.refused laws.reached_none laws.reached_then laws.one_reaches laws.refused_reaches at bytes a b ok now mapped w) c.in-Ok.ensures.told
+    told-valid (P.told c.args.self.now) (P.told c.write_mapped.new.self) P.valid (Writes P.one P.refused P.unit P.most at bytes (Ok tt)) (λ a b. P.ready a → WriteWhole P.view P.stands P.ready P.positive P.ran P.reached P.unit at bytes a b) (laws.tells_valid c.args.self.now c.requires)
+    (λ a b ok w now. write-spelled P.unit P.most laws.sizes P.view P.stands P.valid P.ready P.positive P.ran P.reached P.one P.refused laws.reached_none laws.reached_then laws.one_reaches laws.refused_reaches at bytes a b ok now mapped w) c.in-Ok.ensures.told
 
 pub returns-in-Err-clause-reached : goal.returns-in-Err-clause-reached
 returns-in-Err-clause-reached g c =
@@ -32,6 +32,6 @@ returns-in-Err-clause-reached g c =
     let bytes : List ℕ = c.args.from.now in
     let small : AreSmall bytes = search rules in
     let stop : PortStop = c.in-Err.stop in
-    subst (λ (s : MemStop). OnTold (P.told c.args.self.now) (P.told c.write_mapped.new.self) (λ a b. P.ready a → WriteSpelled P.view P.stands P.ready P.reached P.unit at bytes (Err s) a b)) (sym c.mem_stop.ensures)
-    (told-valid (P.told c.args.self.now) (P.told c.write_mapped.new.self) P.valid (Writes P.one P.refused P.unit P.most at bytes (Err stop)) (λ a b. P.ready a → WriteSpelled P.view P.stands P.ready P.reached P.unit at bytes (Err (of_port stop)) a b) (laws.tells_valid c.args.self.now c.requires)
-    (λ a b ok w now. write-refused-spelled P.unit P.most laws.sizes P.view P.stands P.valid P.ready P.positive P.reached P.one P.refused laws.reached_none laws.reached_then laws.one_reaches laws.refused_reaches at bytes stop a b small ok now mapped w) c.in-Err.ensures.told)
+    subst (λ (s : MemStop). OnTold (P.told c.args.self.now) (P.told c.write_mapped.new.self) (λ a b. P.ready a → WriteSpelled P.view P.stands P.ready P.positive P.ran P.reached P.unit at bytes (Err s) a b)) (sym c.mem_stop.ensures)
+    (told-valid (P.told c.args.self.now) (P.told c.write_mapped.new.self) P.valid (Writes P.one P.refused P.unit P.most at bytes (Err stop)) (λ a b. P.ready a → WriteSpelled P.view P.stands P.ready P.positive P.ran P.reached P.unit at bytes (Err (of_port stop)) a b) (laws.tells_valid c.args.self.now c.requires)
+    (λ a b ok w now. write-refused-spelled P.unit P.most laws.sizes P.view P.stands P.valid P.ready P.positive P.ran P.reached P.one P.refused laws.reached_none laws.reached_then laws.one_reaches laws.refused_reaches at bytes stop a b small ok now mapped w) c.in-Err.ensures.told)
