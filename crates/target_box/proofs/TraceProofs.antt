@@ -59,23 +59,23 @@ lines-trace (ask ∷ more) target held =
     ∙ ap (λ (l : List ℕ). Some l) (append_assoc held (line_text target ask) (trace_text (entries_of more (next_turn target ask).0)))
 
 pub lines_are_traced : LinesAreTraced
-lines_are_traced pauses limit asks allowed =
+lines_are_traced pauses limit held asks allowed =
     let first : TargetState = reset_target pauses limit Direct in
     record {
       entries = entries_of asks first;
-      legal = subst (λ (t : TargetState). IsLegal first (entries_of asks first) t) (sym (lines-target asks (lined first (Some [])))) (entries-legal asks first refl allowed);
+      legal = subst (λ (t : TargetState). IsLegal first (entries_of asks first) t) (sym (lines-target asks (lined first (Some held)))) (entries-legal asks first refl allowed);
       one_each = entries-length asks first;
-      text = lines-trace asks first [];
+      text = lines-trace asks first held;
     }
 
 pub lost_lines_are_cut : LostLinesAreCut
-lost_lines_are_cut pauses limit asks last allowed here =
+lost_lines_are_cut pauses limit held asks last allowed here =
     let first : TargetState = reset_target pauses limit Direct in
     record {
       entries = entries_of asks first;
       unput = entry_of (last_of asks first) last;
       legal = subst (λ (t : TargetState). IsLegal first (entries_of asks first ++ entry_of (last_of asks first) last ∷ []) (next_turn t last).0)
-          (sym (lines-target asks (lined first (Some [])))) (cut-legal asks last first refl allowed here);
+          (sym (lines-target asks (lined first (Some held)))) (cut-legal asks last first refl allowed here);
       one_each = entries-length asks first;
-      text = lines-trace asks first [];
+      text = lines-trace asks first held;
     }

@@ -59,7 +59,8 @@ pub record IsUsable (link : Link) (target : TargetState) : Type 0 where
   pub within : target.turns ≤ target.limit
 
 -- ---- what is seen of a target
--- so many hart steps were made
+-- so many hart steps were made; none of them is one of a halted hart, which stays as it is, since no hart of a usable target
+-- is halted
 abbrev pub ran : System → ℕ → System → Type 0
 ran before count after = after ≡ hart_after count before
 

@@ -32,30 +32,30 @@ abbrev pub all_lines : List Beat → Lined → Lined
 all_lines [] line = line
 all_lines (ask ∷ more) line = all_lines more (next_line line ask).0
 
--- the trace of some transactions: one entry for each, legal, and its text is what was put
-pub record IsTraced (pauses : PausePlan) (limit count : ℕ) (put : Option (List ℕ)) (last : TargetState) : Type 0 where
+-- the trace of some transactions: one entry for each, legal, and its text stands behind what the sink held before
+pub record IsTraced (pauses : PausePlan) (limit count : ℕ) (held : List ℕ) (put : Option (List ℕ)) (last : TargetState) : Type 0 where
   pub entries : List Entry
   pub legal : IsLegal (reset_target pauses limit Direct) entries last
   pub one_each : length entries ≡ count
-  pub text : put ≡ Some (trace_text entries)
+  pub text : put ≡ Some (held ++ trace_text entries)
 
--- transactions from the reset target with an empty trace make a legal trace and its text
+-- transactions from the reset target make a legal trace, and put its text behind what the sink held before
 abbrev pub LinesAreTraced : Type 0
 LinesAreTraced =
-    (pauses : PausePlan) (limit : ℕ) (asks : List Beat) → All IsBeat asks →
-    IsTraced pauses limit (length asks) (all_lines asks (lined (reset_target pauses limit Direct) (Some []))).trace
-    (all_lines asks (lined (reset_target pauses limit Direct) (Some []))).target
+    (pauses : PausePlan) (limit : ℕ) (held : List ℕ) (asks : List Beat) → All IsBeat asks →
+    IsTraced pauses limit (length asks) held (all_lines asks (lined (reset_target pauses limit Direct) (Some held))).trace
+    (all_lines asks (lined (reset_target pauses limit Direct) (Some held))).target
 
 -- where the last one's line is not put, the target is that of the legal trace with it, and the text that of the trace without it
-pub record IsCutTrace (pauses : PausePlan) (limit count : ℕ) (put : Option (List ℕ)) (last : TargetState) : Type 0 where
+pub record IsCutTrace (pauses : PausePlan) (limit count : ℕ) (held : List ℕ) (put : Option (List ℕ)) (last : TargetState) : Type 0 where
   pub entries : List Entry
   pub unput : Entry
   pub legal : IsLegal (reset_target pauses limit Direct) (entries ++ unput ∷ []) last
   pub one_each : length entries ≡ count
-  pub text : put ≡ Some (trace_text entries)
+  pub text : put ≡ Some (held ++ trace_text entries)
 
 abbrev pub LostLinesAreCut : Type 0
 LostLinesAreCut =
-    (pauses : PausePlan) (limit : ℕ) (asks : List Beat) (last : Beat) → All IsBeat asks → IsBeat last →
-    IsCutTrace pauses limit (length asks) (lost_line (all_lines asks (lined (reset_target pauses limit Direct) (Some []))) last).0.trace
-    (lost_line (all_lines asks (lined (reset_target pauses limit Direct) (Some []))) last).0.target
+    (pauses : PausePlan) (limit : ℕ) (held : List ℕ) (asks : List Beat) (last : Beat) → All IsBeat asks → IsBeat last →
+    IsCutTrace pauses limit (length asks) held (lost_line (all_lines asks (lined (reset_target pauses limit Direct) (Some held))) last).0.trace
+    (lost_line (all_lines asks (lined (reset_target pauses limit Direct) (Some held))) last).0.target

@@ -13,7 +13,8 @@ pub fn turns_keep()
     ensures { TurnsKeep }
 {}
 
-/// Transactions from the reset target with an empty trace make a legal trace, with an entry for each, and put its text.
+/// Transactions from the reset target make a legal trace, with an entry for each, and put its text behind what the sink held
+/// before.
 #[tactic(auto, using(crate::proofs::TraceProofs::lines_are_traced))]
 pub fn lines_are_traced()
     ensures { LinesAreTraced }

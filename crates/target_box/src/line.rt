@@ -86,7 +86,8 @@ impl<'a, R: Sink> BeatWire for Line<'a, R> {
         if self.target.is_spent() {
             return Err(WireStop::Spent);
         }
-        let (pause, value) = self.target.read_turn(at);
+        let pause = self.target.next_pause();
+        let value = self.target.read_turn(at);
         put_line(self.trace, &beat_line(pause, " r ", at, value))?;
         Ok(value)
     }
@@ -95,7 +96,8 @@ impl<'a, R: Sink> BeatWire for Line<'a, R> {
         if self.target.is_spent() {
             return Err(WireStop::Spent);
         }
-        let pause = self.target.write_turn(at, value);
+        let pause = self.target.next_pause();
+        self.target.write_turn(at, value);
         put_line(self.trace, &beat_line(pause, " w ", at, value))
     }
 

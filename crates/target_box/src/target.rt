@@ -2,6 +2,7 @@
 ghost use Rattle.std.specs.Prelude.{◌≡◌, ◌≤◌, ◌<◌, ◌+◌, ◌↔◌, IfOk, IsTrue};
 ghost use Rattle.fe_base.specs.Beats.{ReadBeat, WriteBeat};
 ghost use Rattle.fe_base.specs.MemoryMap.{is_beat};
+ghost use Rattle.fe_base.specs.Limits.{pause_limit};
 ghost use Rattle.fe_base.specs.PausePlan.{pause_at};
 ghost use Rattle.target_box.specs.Turn.{IsUsable, next_turn, paused, reset_target};
 
@@ -83,46 +84,49 @@ impl Target {
         &self.bus
     }
 
-    /// No transaction is left.
-    pub fn is_spent(&self) -> bool
+    // No transaction is left.
+    pub(crate) fn is_spent(&self) -> bool
         ensures { IsTrue result ↔ (self.now.limit ≤ self.now.turns) }
     {
         self.turns >= self.limit
     }
 
-    // Makes the hart steps of the next transaction, which is counted, and answers its pause.
-    fn pause(&mut self) -> u32
+    // How many hart steps the next transaction makes.
+    pub(crate) fn next_pause(&self) -> u32
+        ensures pause { result ≡ pause_at self.now.pauses self.now.turns }
+        ensures bound { result ≤ pause_limit }
+    {
+        self.pauses.at(self.turns)
+    }
+
+    // Makes the hart steps of the next transaction, which is counted.
+    fn pause(&mut self)
         requires { self.old.turns < self.old.limit }
-        ensures pause { result ≡ pause_at self.old.pauses self.old.turns }
-        ensures after { self.new ≡ record self.old { system = paused self.old; turns = self.old.turns + 1 } }
+        ensures { self.new ≡ record self.old { system = paused self.old; turns = self.old.turns + 1 } }
     {
         let _limit = self.limit;
-        let count = self.pauses.at(self.turns);
+        let count = self.next_pause();
         self.hart.run_steps(&mut self.bus, u64::from(count));
         self.turns += 1;
-        count
     }
 
-    /// Makes the turn that reads the doubleword at `at`. The answer is the turn's pause and the doubleword.
-    pub fn read_turn(&mut self, at: u64) -> (u32, u64)
+    // Makes the turn that reads the doubleword at `at`.
+    pub(crate) fn read_turn(&mut self, at: u64) -> u64
         requires left { self.old.turns < self.old.limit }
         requires place { IsTrue (is_beat at) }
-        ensures pause { result.0 ≡ pause_at self.old.pauses self.old.turns }
-        ensures turn { next_turn self.old (ReadBeat at) ≡ (self.new, result.1) }
+        ensures { next_turn self.old (ReadBeat at) ≡ (self.new, result) }
     {
-        let pause = self.pause();
-        (pause, self.bus.read_beat(at).unwrap_or(0))
+        self.pause();
+        self.bus.read_beat(at).unwrap_or(0)
     }
 
-    /// Makes the turn that writes the doubleword at `at`. The answer is the turn's pause.
-    pub fn write_turn(&mut self, at: u64, value: u64) -> u32
+    // Makes the turn that writes the doubleword at `at`.
+    pub(crate) fn write_turn(&mut self, at: u64, value: u64)
         requires left { self.old.turns < self.old.limit }
         requires place { IsTrue (is_beat at) }
-        ensures pause { result ≡ pause_at self.old.pauses self.old.turns }
-        ensures turn { next_turn self.old (WriteBeat at value) ≡ (self.new, 0) }
+        ensures { next_turn self.old (WriteBeat at value) ≡ (self.new, 0) }
     {
-        let pause = self.pause();
+        self.pause();
         self.bus.write_beat(at, value);
-        pause
     }
 }

@@ -8,14 +8,14 @@ use arrayvec::ArrayString;
 use fe_base::push_hexadecimal;
 use itoa::Buffer;
 
-/// The most bytes of a line.
-pub const LINE_SIZE: usize = 64;
+// The most bytes of a line.
+pub(crate) const LINE_SIZE: usize = 64;
 
-/// The text of a line.
-pub type Text = ArrayString<LINE_SIZE>;
+// The text of a line.
+pub(crate) type Text = ArrayString<LINE_SIZE>;
 
-/// The line of a beat, by its pause, ` r ` or ` w `, its address and the doubleword that it moved.
-pub fn beat_line(pause: u32, kind: &str, at: u64, value: u64) -> Text
+// The line of a beat, by its pause, ` r ` or ` w `, its address and the doubleword that it moved.
+pub(crate) fn beat_line(pause: u32, kind: &str, at: u64, value: u64) -> Text
     requires pause { pause ≤ pause_limit }
     requires kind { length kind.now ≡ 3 }
     ensures text { result.bytes ≡ beat_text pause kind.now at value }
