@@ -8,16 +8,17 @@
 // Nothing here takes memory.
 #![tactic(auto)]
 
-ghost use Rattle.std.specs.Prelude.{◌≡◌, ◌-◌, ◌*◌, length};
+ghost use Rattle.std.specs.Prelude.{◌≡◌, ◌-◌, ◌*◌, ◌/◌, ℕ, length, IsErrOf, IsOk};
 ghost use Rattle.std.specs.Result.{result_err};
 ghost use Rattle.fe_base.specs.Outside.{capacity, PutSuits};
 ghost use Rattle.fe_base.specs.Wires.{OnTold};
 ghost use Rattle.chunk_memory.specs.BeatChunks.{DirectOne, DirectRefused, wire_counts};
-ghost use Rattle.chunk_memory.specs.Ports.{Maps, MemCauses, MemUnfaulted, with_bytes};
+ghost use Rattle.chunk_memory.specs.Ports.{CostsAtMost, Maps, MemCauses, MemUnfaulted, with_bytes};
 ghost use Rattle.chunk_memory.specs.Reached.{Reached};
 ghost use Rattle.chunk_memory.specs.Spelling.{ReadSpelled, WriteSpelled};
 ghost use Rattle.chunk_memory.specs.Transactions.{ReadsRange, WritesRange};
-ghost use Rattle.target_box.specs.Lined.{lined, seen, next_line, lost_line};
+ghost use Rattle.chunk_memory.specs.Turns.{read_turns, write_turns};
+ghost use Rattle.target_box.specs.Lined.{lined, seen, next_line, lost_line, IsPositiveLine};
 ghost use Rattle.target_box.specs.Turn.{IsUsable, ran, touched};
 ghost use Rattle.target_box.specs.declared.target.Link.TheVariants as link_of;
 
@@ -47,8 +48,13 @@ pub fn read_over<W: BeatWire>(
         (ReadsRange (DirectOne W.next) (DirectRefused W.next W.lost) 8 1024 at (length into.old)
         (with_bytes outcome.new into.new)) }
     ensures reached { OnTold (W.told wire) (W.told result)
-        (ReadSpelled W.view (λ s v. W.view s ≡ v) (λ _. Unit {0}) (Reached W.ran W.touched) 8 at (length into.old)
-        (with_bytes outcome.new into.new)) }
+        (ReadSpelled W.view (λ s v. W.view s ≡ v) (λ _. Unit {0}) W.positive W.ran (Reached W.ran W.touched) 8 at
+        (length into.old) (with_bytes outcome.new into.new)) }
+    ensures turns { CostsAtMost (W.told wire) (λ _. Unit {0}) W.positive (wire_counts (W.left wire) (W.faults wire))
+        (wire_counts (W.left result) (W.faults result)) (read_turns (λ count. count / 8) 8 1024 at (length into.old)) }
+    ensures unmapped { (place : ℕ) → IsErrOf outcome.new (MemStop.Unmapped place) → result ≡ wire }
+    ensures empty { length into.old ≡ 0 → result ≡ wire }
+    ensures empty_done { length into.old ≡ 0 → IsOk outcome.new }
 {
     let mut memory = Chunked::over(DirectPort::over(wire));
     *outcome = memory.read(at, into);
@@ -73,7 +79,13 @@ pub fn write_over<W: BeatWire>(
     ensures told { OnTold (W.told wire) (W.told result)
         (WritesRange (DirectOne W.next) (DirectRefused W.next W.lost) 8 1024 at from.now outcome.new) }
     ensures reached { OnTold (W.told wire) (W.told result)
-        (WriteSpelled W.view (λ s v. W.view s ≡ v) (λ _. Unit {0}) (Reached W.ran W.touched) 8 at from.now outcome.new) }
+        (WriteSpelled W.view (λ s v. W.view s ≡ v) (λ _. Unit {0}) W.positive W.ran (Reached W.ran W.touched) 8 at from.now
+        outcome.new) }
+    ensures turns { CostsAtMost (W.told wire) (λ _. Unit {0}) W.positive (wire_counts (W.left wire) (W.faults wire))
+        (wire_counts (W.left result) (W.faults result)) (write_turns (λ count. count / 8) 8 1024 at (length from.now)) }
+    ensures unmapped { (place : ℕ) → IsErrOf outcome.new (MemStop.Unmapped place) → result ≡ wire }
+    ensures empty { length from.now ≡ 0 → result ≡ wire }
+    ensures empty_done { length from.now ≡ 0 → IsOk outcome.new }
 {
     let mut memory = Chunked::over(DirectPort::over(wire));
     *outcome = memory.write(at, from);
@@ -99,8 +111,13 @@ pub fn read_range<R: Sink>(
         (R.steady trace.new × PutSuits (R.room trace.new) (64 * (target.new.limit - target.new.turns))) }
     ensures told { ReadsRange (DirectOne next_line) (DirectRefused next_line lost_line) 8 1024 at (length into.old)
         (with_bytes result into.new) (lined target.old (R.held trace.old)) (lined target.new (R.held trace.new)) }
-    ensures reached { ReadSpelled seen (λ s v. seen s ≡ v) (λ _. Unit {0}) (Reached ran touched) 8 at (length into.old)
-        (with_bytes result into.new) (lined target.old (R.held trace.old)) (lined target.new (R.held trace.new)) }
+    ensures reached { ReadSpelled seen (λ s v. seen s ≡ v) (λ _. Unit {0}) IsPositiveLine ran (Reached ran touched) 8 at
+        (length into.old) (with_bytes result into.new) (lined target.old (R.held trace.old))
+        (lined target.new (R.held trace.new)) }
+    ensures unmapped { (place : ℕ) → IsErrOf result (MemStop.Unmapped place)
+        → (target.new ≡ target.old) × (trace.new ≡ trace.old) }
+    ensures empty { length into.old ≡ 0 → (target.new ≡ target.old) × (trace.new ≡ trace.old) }
+    ensures empty_done { length into.old ≡ 0 → IsOk result }
 {
     let mut outcome = Ok(());
     let line = Line { target, trace };
@@ -128,8 +145,12 @@ pub fn write_range<R: Sink>(
         (R.steady trace.new × PutSuits (R.room trace.new) (64 * (target.new.limit - target.new.turns))) }
     ensures told { WritesRange (DirectOne next_line) (DirectRefused next_line lost_line) 8 1024 at from.now result
         (lined target.old (R.held trace.old)) (lined target.new (R.held trace.new)) }
-    ensures reached { WriteSpelled seen (λ s v. seen s ≡ v) (λ _. Unit {0}) (Reached ran touched) 8 at from.now result
-        (lined target.old (R.held trace.old)) (lined target.new (R.held trace.new)) }
+    ensures reached { WriteSpelled seen (λ s v. seen s ≡ v) (λ _. Unit {0}) IsPositiveLine ran (Reached ran touched) 8 at
+        from.now result (lined target.old (R.held trace.old)) (lined target.new (R.held trace.new)) }
+    ensures unmapped { (place : ℕ) → IsErrOf result (MemStop.Unmapped place)
+        → (target.new ≡ target.old) × (trace.new ≡ trace.old) }
+    ensures empty { length from.now ≡ 0 → (target.new ≡ target.old) × (trace.new ≡ trace.old) }
+    ensures empty_done { length from.now ≡ 0 → IsOk result }
 {
     let mut outcome = Ok(());
     let line = Line { target, trace };
