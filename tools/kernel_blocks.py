@@ -502,19 +502,20 @@ class Walk:
 
 # the steps that do not lower the number of steps left: a wait that goes on, a byte that is put or passed, and the end
 LEFT_OUT = [
-    ("wait_test", "wait"),
-    ("boot_test", "boot_wait"),
-    ("put_test", "put"),
-    ("closing_test", "closing"),
     ("put_store", "put_done"),
     ("path_test", "path_passed"),
-    ("closing_store", "idle"),
     ("idle", "idle"),
 ]
 
+# the waits: the load of the word, and the test of it, which leads back
+WAITS = [("boot_wait", "boot_test"), ("wait", "wait_test"), ("put", "put_test"), ("closing", "closing_test")]
+
 
 def steps_left(kernel, walk):
-    """For each place of the code, the most steps from there to the end of its way, but for those that are left out."""
+    """For each place of the code, the most steps from there to the end of its way, but for those that are left out.
+
+    The load of a word that is awaited counts two more than the test of it, so that a test that leads back has two steps to spare.
+    """
     ways = {}
     for number, state, steps, _ in walk.blocks:
         if number >= NUMBER["store_gates"] or NAME.get(number, "").endswith("_gate"):
@@ -527,12 +528,13 @@ def steps_left(kernel, walk):
                 break
             ways.setdefault(state.pc, set()).update(s.pc for s in after)
             state = after[0] if i < steps else state
-    out = {(kernel.place[a], kernel.place[b]) for a, b in LEFT_OUT}
+    out = {(kernel.place[a], kernel.place[b]) for a, b in LEFT_OUT} | {(kernel.place[b], kernel.place[a]) for a, b in WAITS}
+    loads = {kernel.place[a] for a, _ in WAITS}
     known = {}
 
     def left(pc):
         if pc not in known:
-            known[pc] = 1 + max([left(q) for q in ways.get(pc, ()) if (pc, q) not in out], default=0)
+            known[pc] = 1 + (pc in loads) + max([left(q) for q in ways.get(pc, ()) if (pc, q) not in out], default=0)
         return known[pc]
 
     sys.setrecursionlimit(10000)
@@ -656,35 +658,43 @@ followers a =
         table = steps_left(self.kernel, self.walk)
         rows = "".join("    " + " ∷ ".join(str(n) for n in table[i:i + 24]) + " ∷\n" for i in range(0, len(table), 24))
         tests = " ||\n    ".join(f"(a == pc_{x} && b == pc_{y})" for x, y in LEFT_OUT)
-        names = sorted({x for pair in LEFT_OUT for x in pair} | {"save", "path_passed", "path_test", "put_done"})
+        loads = " || ".join(f"pc == pc_{x}" for x, _ in WAITS)
+        looks = " || ".join(f"pc == pc_{x}" for _, x in WAITS)
+        names = sorted({x for pair in LEFT_OUT + WAITS for x in pair} | {"save"})
         text = f"-- How many steps are left at each place of the code. {BY}\n"
-        text += "use Rattle.std.specs.Prelude.{ℕ, ◌+◌, ◌-◌, ◌/◌, ◌==◌, ◌&&◌, ◌||◌, nat_lt, nat_le, Bool, true, false, Option, Some, None, List, [], ◌∷◌, get_or}\n"
+        text += "use Rattle.std.specs.Prelude.{ℕ, ◌+◌, ◌-◌, ◌/◌, ◌==◌, ◌&&◌, ◌||◌, not, nat_lt, nat_le, Bool, true, false, Option, Some, None, List, [], ◌∷◌, get_or}\n"
         text += "use Rattle.fe_base.specs.MemoryMap.{kernel_start}\nuse Rattle.kernel_steps.specs.States.{State}\n"
         text += "use Rattle.kernel_steps.specs.Successors.{successors}\nuse Rattle.kernel_code.specs.Kernel.{kernel}\n"
         text += "use Rattle.kernel_code.specs.Places.{" + ", ".join(f"pc_{n}" for n in names) + "}\n"
         text += f"\n-- by the number of the instruction\nunfoldable pub left_table : List ℕ\nleft_table =\n{rows}    []\n"
         text += "\n-- by the pc\nabbrev pub left_at : ℕ → ℕ\nleft_at pc = get_or left_table ((pc - kernel_start) / 4) 0\n"
-        text += "\n-- the steps that do not lower it: a wait that goes on, a byte that is put or passed, and those from the exit word on\n"
+        text += f"\n-- the places where a word that is awaited is loaded\nabbrev pub loads_word : ℕ → Bool\nloads_word pc = {loads}\n"
+        text += f"\n-- the places behind them, where it is tested\nabbrev pub tests_word : ℕ → Bool\ntests_word pc = {looks}\n"
+        text += "\n-- the steps that do not lower it: a byte that is put or passed, and those behind the exit word\n"
         text += f"abbrev pub is_left_out : ℕ → ℕ → Bool\nis_left_out a b =\n    {tests}\n"
         text += """
--- each of these states has fewer steps left, or is reached by such a step
+-- the second place is no test of a word, and has fewer steps left than the first, or is reached by such a step
+abbrev pub is_lower : ℕ → ℕ → Bool
+is_lower a b = not (tests_word b) && (is_left_out a b || nat_lt (left_at b) (left_at a))
+
+-- each of these states is at such a place
 abbrev pub all_lower : ℕ → List State → Bool
 all_lower a [] = true
-all_lower a (t ∷ ts) = elim (is_left_out a t.at || nat_lt (left_at t.at) (left_at a)) [ true ↦ all_lower a ts | false ↦ false ]
+all_lower a (t ∷ ts) = elim (is_lower a t.at) [ true ↦ all_lower a ts | false ↦ false ]
 
 -- so does each state to which a step leads, where that is known
 abbrev pub may_end : Option (List State) → ℕ → Bool
 may_end (Some ts) a = all_lower a ts
 may_end None a = true
 
--- a step from a place of a block lowers the number of steps left, but for those that are left out
+-- a step from a place of a block lowers the number of steps left, but for those that are left out, and those of a wait
 abbrev pub lowers : ℕ → State → Bool
-lowers number state = may_end (successors kernel state) state.at
+lowers number state = elim (loads_word state.at || tests_word state.at) [ true ↦ true | false ↦ may_end (successors kernel state) state.at ]
 
 -- the bounds: a call or a trap, behind a byte that was put, behind a byte of a path that was passed, and from reset
 abbrev pub are_bounds : Bool
 are_bounds =
-    nat_le (left_at pc_save + 2) 400 && (nat_le (left_at pc_put_done + 2) 399 && (nat_le (left_at pc_path_passed) (left_at pc_path_test + 15) && nat_le (left_at kernel_start + 2) 400))
+    nat_le (left_at pc_save) 400 && (nat_le (left_at pc_put_done) 399 && (nat_le (left_at pc_path_passed) (left_at pc_path_test + 15) && nat_le (left_at kernel_start) 400))
 """
         return text
 

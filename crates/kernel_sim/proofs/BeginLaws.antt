@@ -1,6 +1,6 @@
 -- The hart that begins is in Boot.
-use Rattle.std.proofs.Common.{◌≡◌, ℕ, zero, suc, ◌+◌, ◌%◌, ◌^◌, ◌<◌, ◌==◌, Bool, true, false, Some, map, List, [], ◌∷◌, ◌++◌, length, refl, ap, sym, subst, ◌∙◌, arith, if◌then◌else◌}
-use Rattle.std.specs.Prelude.{slice_index, slice_get}
+use Rattle.std.proofs.Common.{◌≡◌, ℕ, zero, suc, ◌+◌, ◌%◌, ◌^◌, ◌<◌, ◌==◌, Bool, true, false, List, [], ◌∷◌, ◌++◌, refl, ap, sym, subst, ◌∙◌, arith, if◌then◌else◌}
+use Rattle.std.specs.Prelude.{slice_index}
 use Rattle.rv_decode.specs.Alignment.{instruction_alignment}
 use Rattle.rv_hart.specs.HartStep.{System, over}
 use Rattle.guest_memory.specs.Bus.{BusState, IsBus}
@@ -8,9 +8,6 @@ use Rattle.guest_memory.specs.Memory.{load, zeros}
 use Rattle.guest_memory.proofs.AreaLemmas.{bus_load-kernel}
 use Rattle.kernel_sim.specs.declared.phase.PhaseKind.TheVariants.{Boot}
 use Rattle.kernel_sim.specs.declared.phase.Phase.{Phase}
-use Rattle.rv_decode.specs.declared.instruction.Insn.{Insn}
-use Rattle.rv_decode.specs.InsnTable.{insn_of, branch_of, load_of, store_of, op_imm_of, op_of, op_base_of, op_alternate_of, system_of, jalr_of}
-use Rattle.proxy_kernel.specs.KernelWords.{kernel_words}
 use Rattle.kernel_steps.specs.States.{State, Describes}
 use Rattle.kernel_steps.specs.Terms.{Term, Lit, Var, Unknown, AllIs, CellsAre}
 use Rattle.kernel_code.specs.Kernel.{kernel, blocks}

@@ -1,25 +1,24 @@
 -- The kernel's break and first break are those of the phase, after each step.
-use Rattle.std.proofs.Common.{inl, inr, ◌≡◌, ◌≢◌, ℕ, ◌+◌, ◌*◌, ◌<◌, ◌≤◌, ◌==◌, Bool, true, false, ◌&&◌, ◌||◌, Option, Some, None, List, [], ◌∷◌, get_or, refl, ap, sym, subst, ◌∙◌, arith}
-use Rattle.std.specs.Prelude.{⊤, nat_le}
+use Rattle.std.proofs.Common.{inl, inr, ◌≡◌, ◌≢◌, ℕ, ◌+◌, ◌*◌, ◌≤◌, ◌==◌, Bool, true, false, ◌&&◌, ◌||◌, ◌⊎◌, Option, Some, None, List, [], ◌∷◌, get_or, refl, ap, sym, subst, ◌∙◌, arith}
+use Rattle.std.specs.Prelude.{nat_le, nat_lt, slice_index}
 use Rattle.std.proofs.lemmas.Bool.{false≢true, and_parts, ne_eqb}
-use Rattle.std.proofs.lemmas.Bool.Decides.{nat_tests}
-use Rattle.fe_base.specs.MemoryMap.{kernel_variables, boot}
+use Rattle.fe_base.specs.MemoryMap.{kernel_variables, boot, kernel_code_size}
 use Rattle.rv_csr.specs.CsrTable.{csr_of}
 use Rattle.rv_csr.specs.declared.privilege.Mode.TheVariants as mode
 use Rattle.rv_hart.specs.HartStep.{System, AreRegisters, hart_step, over, counted_step}
-use Rattle.guest_memory.specs.Bus.{BusState}
 use Rattle.guest_memory.specs.Memory.{load}
 use Rattle.guest_memory.proofs.AreaLemmas.{bus_load-kernel}
 use Rattle.plain_machine.specs.UserStep.{UserStep, call, trap, user_step}
 use Rattle.plain_machine.specs.UserStep as user_spec
-use Rattle.kernel_steps.specs.Terms.{Unknown, is_known}
+use Rattle.kernel_steps.specs.Terms.{Var, Unknown, Is}
 use Rattle.kernel_steps.specs.States.{State, Describes, OneDescribes}
 use Rattle.kernel_steps.specs.Successors.{successors}
-use Rattle.kernel_steps.specs.Blocks.{Here, same}
-use Rattle.kernel_steps.proofs.GraphLaws.{led, then-l, then-r}
+use Rattle.kernel_steps.specs.Blocks.{Here, same, has_fact}
+use Rattle.kernel_steps.proofs.GraphLaws.{led, same-path, has_fact-holds, then-l, then-r}
+use Rattle.kernel_steps.proofs.Soundness.{CellsAre-get}
 use Rattle.kernel_steps.proofs.Tests.{blocks_all, blocks_all-at}
 use Rattle.kernel_code.specs.Places.{break_cell, break_place}
-use Rattle.kernel_code.specs.Numbers.{booting_blocks, break_blocks, trap_words, store_gates}
+use Rattle.kernel_code.specs.Numbers.{booting_blocks, break_blocks, trap_words, store_gates, v_first_break}
 use Rattle.kernel_code.specs.Kinds.{may_follow}
 use Rattle.kernel_code.specs.Kernel.{kernel, blocks}
 use Rattle.proxy_kernel.specs.KernelWords.{kernel_insns}
@@ -36,11 +35,14 @@ use Rattle.kernel_sim.specs.declared.phase.Phase.{Phase}
 use Rattle.kernel_sim.specs.declared.phase.UserState.{UserState}
 use Rattle.kernel_sim.specs.Phases.{dword, user_by, phase_from, kind_now}
 use Rattle.kernel_sim.specs.Steps.{follows}
-use Rattle.kernel_sim.specs.Stages.{Stage, Saving, Checking, Starting, Scanning, Looked, Past, Full, Found, Filling, Waiting, Tested, Taking, NoCall, Outside, Long, Breaking, Restoring, Choosing, base, Saying, Said, Ending, Ended, stage_kind, stage_number, BootStage, Booting, BootWaiting, BootTested, BootTaking, Leaving, boot_kind, boot_number, InKernel, InBoot, InUser, Place, HoldsAs, BreaksAre}
-use Rattle.kernel_sim.proofs.Gates.{number_code}
+use Rattle.kernel_sim.specs.Stages.{Stage, NoCall, Outside, Long, Breaking, base, Saying, Said, Ending, Ended, stage_kind, stage_number, BootStage, Booting, BootWaiting, BootTested, BootTaking, Leaving, boot_kind, boot_number, InKernel, InBoot, InUser, Place, HoldsAs, BreaksAre, Links, Extra}
+use Rattle.kernel_sim.specs.Rows.{call_part}
+use Rattle.kernel_sim.proofs.Gates.{number_code, below_first, above_top}
+use Rattle.kernel_sim.proofs.PartLaws.{break-part}
+use Rattle.plain_machine.specs.KernelPart.{breaks, break_after}
 use Rattle.kernel_sim.proofs.MessageLaws.{base-low}
 use Rattle.kernel_sim.proofs.HostLaws.{shut-of, boot-shut}
-use Rattle.kernel_sim.proofs.MailLaws.{is_bus_kept, bus-kept}
+use Rattle.kernel_sim.proofs.MailLaws.{is_bus_kept, bus-kept, tries}
 use Rattle.kernel_sim.proofs.KeptLaws.{holds-cell, cell-held, block_kept}
 
 -- ---- the break's doubleword over a step, but in Boot and in a call of brk
@@ -88,6 +90,56 @@ module _ (user : List ℕ) (env : ℕ → ℕ) (sys : System) (fit : AreRegister
       go true e h = absurd (false≢true (sym e))
       go false e h = h
 
+-- ---- the break's doubleword over a step in a call of brk: it stays, or becomes the break that is asked for
+abbrev moved_to : State → Bool
+moved_to t = same (get_or t.cells break_cell Unknown) (Var 10) && (has_fact (below_first false) t.facts && has_fact (above_top false) t.facts)
+
+abbrev all_once : State → List State → Bool
+all_once u [] = true
+all_once u (t ∷ ts) = elim (holds-cell u t break_cell || moved_to t) [ true ↦ all_once u ts | false ↦ false ]
+
+abbrev once_ok : ℕ → State → Bool
+once_ok k u = elim (k == break_blocks) [ true ↦ tries false (successors kernel u) (all_once u) | false ↦ true ]
+
+once_right : blocks_all once_ok kernel blocks ≡ true
+unfolding kernel kernel_insns blocks call_blocks trap_blocks counter_blocks cells_0 cells_1 cells_2 cells_3 cells_4 cells_5 cells_6 cells_7 cells_8 cells_9 csrs_0 csrs_1 csrs_2 csr_of
+once_right = refl
+
+orb : {P : Type 0} (a b : Bool) → (a || b) ≡ true → (a ≡ true → P) → (b ≡ true → P) → P
+orb true b e f g = f refl
+orb false b e f g = g e
+
+module _ (user : List ℕ) (env : ℕ → ℕ) (sys : System) (fit : AreRegisters sys.hart.registers) where
+  abbrev stepped : System
+  stepped = hart_step sys
+
+  abbrev pub Moved : Type 0
+  Moved = (load stepped.bus.kernel break_place 8 ≡ env 10) × (nat_lt (env 10) (env v_first_break) ≡ false) × (nat_lt 15728640 (env 10) ≡ false)
+
+  abbrev Once : Type 0
+  Once = (load stepped.bus.kernel break_place 8 ≡ load sys.bus.kernel break_place 8) ⊎ Moved
+
+  one-moved : (t : State) → moved_to t ≡ true → Describes kernel user env t stepped → Moved
+  one-moved t e m =
+      let a = and_parts (same (get_or t.cells break_cell Unknown) (Var 10)) (has_fact (below_first false) t.facts && has_fact (above_top false) t.facts) e in
+      let b = and_parts (has_fact (below_first false) t.facts) (has_fact (above_top false) t.facts) a.1 in (
+        subst (λ z. Is env z (load stepped.bus.kernel break_place 8)) (same-path (get_or t.cells break_cell Unknown) (Var 10) a.0) (CellsAre-get env t.cells stepped.bus.kernel kernel_code_size break_cell break_place refl m.memory.cells_are),
+        has_fact-holds env (below_first false) t.facts b.0 m.facts,
+        has_fact-holds env (above_top false) t.facts b.1 m.facts,
+      )
+
+  all-moved : (u : State) (ts : List State) → all_once u ts ≡ true → Describes kernel user env u sys → OneDescribes kernel user env ts stepped → Once
+  all-moved u [] e m n = absurd n
+  all-moved u (t ∷ ts) e m (inl n) = orb (holds-cell u t break_cell) (moved_to t) (then-l _ _ e) (λ q. inl (cell-held user env sys fit u t break_cell break_place refl q m n)) (λ q. inr (one-moved t q n))
+  all-moved u (t ∷ ts) e m (inr n) = all-moved u ts (then-r (holds-cell u t break_cell || moved_to t) _ e) m n
+
+  pub moves-once : Here kernel user env blocks break_blocks sys → Once
+  moves-once w = go (successors kernel w.state) refl (subst (λ z. once_ok z w.state ≡ true) w.kind (blocks_all-at once_ok kernel blocks w.block w.state once_right w.among w.on))
+    where
+      go : (o : Option (List State)) → successors kernel w.state ≡ o → tries false (successors kernel w.state) (all_once w.state) ≡ true → Once
+      go (Some ts) q r = all-moved w.state ts (subst (λ z. tries false z (all_once w.state) ≡ true) q r) w.describes (led kernel user env may_follow blocks sys fit w.state ts _ refl q w.describes)
+      go None q r = absurd (false≢true (subst (λ z. tries false z (all_once w.state) ≡ true) q r))
+
 -- which stages those are
 both-false : (a b : Bool) → a ≡ false → b ≡ false → (a || b) ≡ false
 both-false a b p q = rw (p, q) refl
@@ -111,6 +163,10 @@ boot-unmoving BootWaiting n = refl
 boot-unmoving BootTested n = refl
 boot-unmoving BootTaking n = refl
 boot-unmoving Leaving n = refl
+
+-- the break in a call that the kernel answers
+abbrev pub LocalBreak : Phase → System → System → Type 0
+LocalBreak p old new = (dword new.bus kernel_variables ≡ p.user.brk) ⊎ (call_part p old.bus.user ≡ breaks (dword new.bus kernel_variables))
 
 -- ---- the phase's break and first break
 break-after : (was now : PhaseKind) (u : UserState) (new : System) → (was ≢ Boot → was ≢ Local → u.brk ≡ dword new.bus kernel_variables) → follows was now ≡ true → now ≢ Boot → (user_by was now u new).brk ≡ dword new.bus kernel_variables
@@ -210,6 +266,30 @@ module _ (p : Phase) (sys : System) (fit : AreRegisters sys.hart.registers) wher
   stays Restore n m i = in-kernel Restore m i
   stays Speak n m i = in-kernel Speak m i
   stays Closing n m i = in-kernel Closing m i
+
+  -- in a call that the kernel answers, the break stays or is the answer of brk
+  pub local-break : InKernel Local p sys → p.user.brk ≡ dword sys.bus kernel_variables → LocalBreak p sys after
+  local-break i b = go i.stage i.staged i.here i.links i.extra
+    where
+      keeps-it : (st : Stage) → stage_kind st ≡ Local → (stage_number st == booting_blocks || stage_number st == break_blocks) ≡ false → Extra st p i.user i.env → Here kernel i.user i.env blocks (stage_number st) sys → LocalBreak p sys after
+      keeps-it st e n x w = inl (word (here-keeps i.user i.env sys fit (stage_number st) (both-false _ _ (shut-of st p i.user i.env x) n) w) ∙ sym b)
+
+      go : (st : Stage) → stage_kind st ≡ Local → Here kernel i.user i.env blocks (stage_number st) sys → Links st p.user i.env → Extra st p i.user i.env → LocalBreak p sys after
+      go NoCall e w l x = keeps-it NoCall e refl x w
+      go Outside e w l x = keeps-it Outside e refl x w
+      go Long e w l x = keeps-it Long e refl x w
+      go Breaking e w l x = by (moves-once i.user i.env sys fit w)
+        where
+          asked : slice_index p.user.regs 10 ≡ i.env 10
+          asked = sym (l.regs_are 10 (omega arith))
+
+          by : (load after.bus.kernel break_place 8 ≡ load sys.bus.kernel break_place 8) ⊎ Moved i.user i.env sys fit → LocalBreak p sys after
+          by (inl q) = inl (word q ∙ sym b)
+          by (inr q) =
+              let now : dword after.bus kernel_variables ≡ i.env 10 = bus_load-kernel after.bus kernel_variables 8 (omega arith) ∙ q.0 in
+              let answer : break_after (slice_index p.user.regs 10) p.user.brk p.user.first_break ≡ dword after.bus kernel_variables = rw (asked, l.first_is, q.1, q.2, now) refl in
+              inr (break-part p.user.regs sys.bus.user p.user.brk p.user.first_break (sym (l.regs_are 17 (omega arith)) ∙ x) ∙ ap breaks answer)
+      go st e w l x = cc
 
   breaks-of : (k : PhaseKind) → k ≢ Boot → BreaksAre k p sys → (p.user.brk ≡ dword sys.bus kernel_variables) × (p.user.first_break ≡ dword sys.bus (boot + 8))
   breaks-of Boot n b = absurd (n refl)

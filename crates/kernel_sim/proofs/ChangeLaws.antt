@@ -1,75 +1,80 @@
 -- Which fields of a phase a step changes.
-use Rattle.std.proofs.Common.{◌≡◌, ◌≢◌, ℕ, ◌+◌, ◌-◌, ◌*◌, ◌%◌, ◌^◌, ◌<◌, ◌≤◌, ◌==◌, ◌&&◌, ◌||◌, Bool, true, false, ◌⊎◌, inl, inr, Option, Some, None, List, [], ◌∷◌, refl, ap, sym, subst, ◌∙◌, arith, if◌then◌else◌}
-use Rattle.std.specs.Prelude.{min, slice_index, pos}
-use Rattle.std.proofs.lemmas.Bool.{false≢true, eqb-true, eqb-false, eq-eqb, ne_eqb, and_parts}
+use Rattle.std.proofs.Common.{◌≡◌, ℕ, ◌+◌, ◌-◌, ◌^◌, ◌≤◌, ◌==◌, Bool, true, false, ◌⊎◌, inl, inr, Option, Some, None, List, refl, ap, sym, ◌∙◌, arith, if◌then◌else◌}
+use Rattle.std.specs.Prelude.{min, slice_index}
+use Rattle.std.proofs.lemmas.Bool.{false≢true, eq-eqb, ne_eqb}
 use Rattle.fe_base.specs.Memory.{counted}
-use Rattle.fe_base.specs.MemoryMap.{boot, kernel_variables, request}
-use Rattle.rv_alu.specs.Causes.{cause_number}
 use Rattle.rv_csr.specs.declared.privilege.Mode.TheVariants as mode
 use Rattle.rv_hart.specs.HartStep.{System, AreRegisters, hart_step, over, counted_step, trap_step}
 use Rattle.rv_hart.proofs.CountLaws.{machine_steps_uncounted}
-use Rattle.guest_memory.specs.Bus.{IsBus}
 use Rattle.guest_memory.specs.Memory.{load}
 use Rattle.plain_machine.specs.UserStep.{UserStep, next, call, trap, user_step}
 use Rattle.plain_machine.specs.UserStep as user_spec
-use Rattle.plain_machine.specs.KernelPart.{gives}
+use Rattle.plain_machine.specs.KernelPart.{gives, breaks, greatest_path}
 use Rattle.rv_decode.specs.declared.instruction.Insn.{Insn}
-use Rattle.kernel_steps.specs.States.{State, Describes}
+use Rattle.kernel_steps.specs.States.{State}
 use Rattle.kernel_steps.specs.Successors.{and_then, fetch, successors_of, successors}
 use Rattle.kernel_steps.specs.Blocks.{Here}
 use Rattle.kernel_steps.proofs.Soundness.{keeps-code}
 use Rattle.kernel_code.specs.Kernel.{kernel, blocks}
 use Rattle.kernel_code.specs.Places.{pc_path_passed}
-use Rattle.kernel_code.specs.Numbers.{v_scanned}
 use Rattle.kernel_sim.specs.UserMode.{user_of}
 use Rattle.kernel_sim.proofs.Agreement.{user_steps_agree}
 use Rattle.kernel_sim.proofs.UserSteps.{seen_by}
 use Rattle.kernel_sim.specs.declared.phase.PhaseKind.{PhaseKind}
 use Rattle.kernel_sim.specs.declared.phase.PhaseKind.TheVariants.{Boot, BootWait, BootTake, Leave, User, Save, Check, Scan, Fill, Wait, Take, Local, Restore, Speak, Closing}
 use Rattle.kernel_sim.specs.declared.phase.Phase.{Phase}
-use Rattle.kernel_sim.specs.Phases.{dword, request_of, answered, user_by, text_by, scanned_by, phase_from, kind_now, next_phase}
+use Rattle.kernel_sim.specs.Phases.{request_of, answered, user_by, text_by, scanned_by}
 use Rattle.kernel_sim.specs.Rows.{call_part}
-use Rattle.kernel_sim.specs.Steps.{follows, TrapTold, Told}
+use Rattle.kernel_sim.specs.Steps.{follows}
+use Rattle.kernel_sim.specs.Traps.{TrapTold}
+use Rattle.kernel_sim.proofs.Told.{Told}
 use Rattle.kernel_sim.specs.Mailbox.{MailboxKept}
-use Rattle.kernel_sim.specs.Stages.{Stage, Starting, Scanning, Looked, Past, Full, stage_kind, stage_number, boot_number, Extra, InKernel, InBoot, InUser, Place, HoldsAs, Known}
-use Rattle.kernel_sim.specs.Changes.{UserAfter, told_of, TextAfter, ScannedAfter, StepsCounted, Waits, CodeKept}
-use Rattle.kernel_sim.proofs.MailLaws.{is_bus_kept, bus-kept}
+use Rattle.kernel_sim.specs.Stages.{Stage, Starting, Scanning, Looked, Past, Full, stage_kind, stage_number, boot_number, Extra, InKernel, InBoot, InUser, Place}
+use Rattle.kernel_sim.specs.Changes.{UserAfter, TextAfter, ScannedAfter, StepsCounted, CodeKept}
+use Rattle.kernel_sim.proofs.MailLaws.{bus-kept}
 use Rattle.kernel_sim.proofs.KeptLaws.{keeps_by, keeps-at}
 use Rattle.kernel_sim.proofs.HostLaws.{shut-of, boot-shut}
+use Rattle.kernel_sim.proofs.BreakLaws.{LocalBreak}
 
 -- ---- the program's state
-pub user-after : (was now : PhaseKind) (p : Phase) (old new : System) → follows was now ≡ true → Told was now p old new → p.request ≡ request_of old.bus → MailboxKept was now old.bus new.bus → UserAfter was now p old new (user_by was now p.user new)
-user-after Boot BootWait p old new e t r m = rw t.2 refl
-user-after Boot Boot p old new e t r m = refl
-user-after Boot now p old new e t r m = absurd (false≢true e)
-user-after BootWait now p old new e t r m = refl
-user-after BootTake now p old new e t r m = refl
-user-after Leave User p old new e t r m = rw (t.0, t.1) refl
-user-after Leave Leave p old new e t r m = refl
-user-after Leave now p old new e t r m = absurd (false≢true e)
-user-after User User p old new e t r m = (t.0, t.1, rw (t.2, t.3) refl, t.4)
-user-after User Save p old new e t r m = refl
-user-after User now p old new e t r m = absurd (false≢true e)
-user-after Save now p old new e t r m = refl
-user-after Check now p old new e t r m = refl
-user-after Scan now p old new e t r m = refl
-user-after Fill now p old new e t r m = refl
-user-after Wait now p old new e t r m = refl
-user-after Take Restore p old new e t r m =
+pub user-after : (was now : PhaseKind) (p : Phase) (old new : System) → follows was now ≡ true → Told was now p old new → p.request ≡ request_of old.bus → MailboxKept was now old.bus new.bus → (was ≡ Local → LocalBreak p old new) → UserAfter was now p old new (user_by was now p.user new)
+user-after Boot BootWait p old new e t r m b = rw t.2 refl
+user-after Boot Boot p old new e t r m b = refl
+user-after Boot now p old new e t r m b = absurd (false≢true e)
+user-after BootWait now p old new e t r m b = refl
+user-after BootTake now p old new e t r m b = refl
+user-after Leave User p old new e t r m b = rw (t.0, t.1) refl
+user-after Leave Leave p old new e t r m b = refl
+user-after Leave now p old new e t r m b = absurd (false≢true e)
+user-after User User p old new e t r m b = (t.0, t.1, rw (t.2, t.3) refl, t.4)
+user-after User Save p old new e t r m b = refl
+user-after User now p old new e t r m b = absurd (false≢true e)
+user-after Save now p old new e t r m b = refl
+user-after Check now p old new e t r m b = refl
+user-after Scan now p old new e t r m b = refl
+user-after Fill now p old new e t r m b = refl
+user-after Wait now p old new e t r m b = refl
+user-after Take Restore p old new e t r m b =
     let first : slice_index new.hart.registers 10 ≡ slice_index p.request 0 = t.0 ∙ ap (λ z. slice_index z 0) (m.2 ∙ sym r) in
     rw (first, t.1) refl
-user-after Take Take p old new e t r m = refl
-user-after Take now p old new e t r m = absurd (false≢true e)
-user-after Local Local p old new e t r m = refl
-user-after Local Restore p old new e t r m = (slice_index new.hart.registers 10, t.0, ap (λ z. record (answered (slice_index new.hart.registers 10) p.user) { brk = z }) (go (slice_index p.user.regs 17 == 214) refl))
+user-after Take Take p old new e t r m b = refl
+user-after Take now p old new e t r m b = absurd (false≢true e)
+user-after Local Local p old new e t r m b = go (b refl)
   where
-    go : (b : Bool) → (slice_index p.user.regs 17 == 214) ≡ b → dword new.bus kernel_variables ≡ (if b then slice_index new.hart.registers 10 else p.user.brk)
-    go true q = t.1 (eqb-true (slice_index p.user.regs 17) 214 q)
-    go false q = t.2 (eqb-false (slice_index p.user.regs 17) 214 q)
-user-after Local now p old new e t r m = absurd (false≢true e)
-user-after Restore now p old new e t r m = refl
-user-after Speak now p old new e t r m = refl
-user-after Closing now p old new e t r m = refl
+    go : LocalBreak p old new → UserAfter Local Local p old new (user_by Local Local p.user new)
+    go (inl q) = inl (rw q refl)
+    go (inr q) = inr (q, refl)
+user-after Local Restore p old new e t r m b = (slice_index new.hart.registers 10, go t)
+  where
+    go : Told Local Restore p old new
+        → ((call_part p old.bus.user ≡ gives (slice_index new.hart.registers 10)) × (user_by Local Restore p.user new ≡ answered (slice_index new.hart.registers 10) p.user))
+        ⊎ ((call_part p old.bus.user ≡ breaks (slice_index new.hart.registers 10)) × (user_by Local Restore p.user new ≡ record (answered (slice_index new.hart.registers 10) p.user) { brk = slice_index new.hart.registers 10 }))
+    go (inl q) = inl (q.0, rw q.1 refl)
+    go (inr q) = inr (q.0, rw q.1 refl)
+user-after Local now p old new e t r m b = absurd (false≢true e)
+user-after Restore now p old new e t r m b = refl
+user-after Speak now p old new e t r m b = refl
+user-after Closing now p old new e t r m b = refl
 
 -- ---- the message
 pub text-after : (was now : PhaseKind) (p : Phase) (old new : System) → follows was now ≡ true → Told was now p old new → TextAfter was now p old (text_by was now p new)
@@ -98,10 +103,10 @@ text-after Restore now p old new e t = refl
 text-after Closing now p old new e t = refl
 
 -- ---- the bytes of a path
-few-scanned : (p : Phase) (sys : System) (i : InKernel Scan p sys) → p.scanned < 4097
+pub few-scanned : (p : Phase) (sys : System) (i : InKernel Scan p sys) → p.scanned ≤ greatest_path
 few-scanned p sys i = go i.stage i.staged i.extra
   where
-    go : (st : Stage) → stage_kind st ≡ Scan → Extra st p i.user i.env → p.scanned < 4097
+    go : (st : Stage) → stage_kind st ≡ Scan → Extra st p i.user i.env → p.scanned ≤ greatest_path
     go Starting e x = let z = x.1 in omega arith
     go Scanning e x = let z = x.1 in let l = x.0.below in omega arith
     go Looked e x = let z = x.1 in let l = x.0.below in omega arith

@@ -5,12 +5,13 @@ use Rattle.std.proofs.lemmas.Bool.Decides.{nat_tests}
 use Rattle.rv_alu.specs.declared.arithmetic.AluOp.TheVariants as op
 use Rattle.kernel_steps.specs.Terms.{Term, Lit, Var, Bin, Aligned, Unknown, value, compared, Fact, FactsHold}
 use Rattle.kernel_steps.specs.Blocks.{same, same_bool}
-use Rattle.plain_machine.specs.KernelPart.{Part, gives, posts, scans, request, in_area, lowered, direct_part}
+use Rattle.plain_machine.specs.KernelPart.{Part, gives, breaks, posts, scans, request, in_area, lowered, break_after, direct_part}
 use Rattle.kernel_steps.proofs.GraphLaws.{same-path, same_bool-path}
 use Rattle.kernel_code.specs.Numbers.{v_first_break, v_break}
 
 pub data Answer : Type 0 where
   Gives : Term → Answer
+  Breaks : Answer
   Posts : List Term → Answer
   Scans : Answer
 
@@ -24,6 +25,7 @@ values env (s ∷ ss) = value env s ∷ values env ss
 
 abbrev pub part_of : (ℕ → ℕ) → Answer → Part
 part_of env (Gives s) = gives (value env s)
+part_of env Breaks = breaks (break_after (env 10) (env v_break) (env v_first_break))
 part_of env (Posts ss) = posts (values env ss)
 part_of env Scans = scans
 
@@ -54,8 +56,7 @@ call_tree =
     (asks 63 (lower (λ n. area n (posted (Var 11) n (Lit 0) (Lit 0)))) (asks 64 (lower (λ n. area n (posted (Var 11) n (Lit 0) (Lit 0))))
     (asks 67 (lower (λ n. area n (posted (Var 11) n (Var 13) (Lit 0)))) (asks 68 (lower (λ n. area n (posted (Var 11) n (Var 13) (Lit 0))))
     (asks 80 (area (Lit 128) (posted (Var 11) (Lit 0) (Lit 0) (Lit 0))) (asks 93 (posted (Lit 0) (Lit 0) (Lit 0) (Lit 0)) (asks 94 (posted (Lit 0) (Lit 0) (Lit 0) (Lit 0))
-    (asks 214 (Ask true (Var 10) (Var v_first_break) (Leaf (Gives (Var v_break))) (Ask true (Lit 15728640) (Var 10) (Leaf (Gives (Var v_break))) (Leaf (Gives (Var 10)))))
-    (refuse 38)))))))))))))))
+    (asks 214 (Leaf Breaks) (refuse 38)))))))))))))))
 
 -- the room behind an address, as SUB gives it
 room : (at : ℕ) → at ≤ 16842752 → (16842752 + (2 ^ 64 - at)) % 2 ^ 64 ≡ 16842752 - at
@@ -87,7 +88,7 @@ shape env x63 x64 x67 x68 x80 =
     else (if env 17 == 80 then x80
     else (if env 17 == 93 then posts (request (env 17) (env 10) 0 0 0 0)
     else (if env 17 == 94 then posts (request (env 17) (env 10) 0 0 0 0)
-    else (if env 17 == 214 then (if nat_lt (env 10) (env v_first_break) then gives (env v_break) else (if nat_lt 15728640 (env 10) then gives (env v_break) else gives (env 10)))
+    else (if env 17 == 214 then breaks (break_after (env 10) (env v_break) (env v_first_break))
     else gives (2 ^ 64 - 38)))))))))))))))
 
 shape-same : (env : ℕ → ℕ) (a b c d e v w x y z : Part) → a ≡ v → b ≡ w → c ≡ x → d ≡ y → e ≡ z → shape env a b c d e ≡ shape env v w x y z
@@ -219,6 +220,7 @@ same_all (a ∷ as1) [] = false
 
 abbrev pub same_answer : Option Answer → Answer → Bool
 same_answer (Some (Gives a)) (Gives b) = same a b
+same_answer (Some Breaks) Breaks = true
 same_answer (Some Scans) Scans = true
 same_answer (Some (Posts a)) (Posts b) = same_all a b
 same_answer _ _ = false
@@ -231,6 +233,7 @@ all-path (a ∷ as1) [] e = absurd (false≢true e)
 
 pub answer-path : (o : Option Answer) (x : Answer) → same_answer o x ≡ true → o ≡ Some x
 answer-path (Some (Gives a)) (Gives b) e = ap (λ z. Some (Gives z)) (same-path a b e)
+answer-path (Some Breaks) Breaks e = refl
 answer-path (Some Scans) Scans e = refl
 answer-path (Some (Posts a)) (Posts b) e = ap (λ z. Some (Posts z)) (all-path a b e)
 answer-path o x e = absurd (false≢true e)

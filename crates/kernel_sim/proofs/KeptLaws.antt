@@ -29,6 +29,8 @@ use Rattle.kernel_code.specs.CounterWords.{counter_blocks}
 use Rattle.kernel_code.specs.Shorthand.{cells_0, cells_1, cells_2, cells_3, cells_4, cells_5, cells_6, cells_7, cells_8, cells_9, csrs_0, csrs_1, csrs_2}
 use Rattle.kernel_sim.specs.Stages.{InKernel, InBoot, InUser, stage_number, boot_number, Place, Known}
 use Rattle.kernel_sim.specs.Kept.{UserKept, BootBlockKept}
+use Rattle.kernel_sim.specs.Steps.{follows}
+use Rattle.kernel_sim.proofs.Told.{Told}
 use Rattle.kernel_steps.proofs.Soundness.{CellsAre-get, value-Is}
 use Rattle.kernel_steps.proofs.GraphLaws.{led, same-path, then-l, then-r}
 use Rattle.kernel_steps.proofs.Tests.{blocks_all, blocks_all-at}
@@ -108,22 +110,24 @@ module _ (p : Phase) (sys : System) (fit : AreRegisters sys.hart.registers) wher
   boot-keeps : (k : PhaseKind) → InBoot k p sys → All
   boot-keeps k i = here-keeps i.user i.env sys fit (boot_number i.stage) (boot-shut i.stage) i.here
 
-  user_kept : (k : PhaseKind) → Place k p sys → UserKept k sys.bus after
-  user_kept User i = tt
-  user_kept Boot i = (boot-keeps Boot i).0
-  user_kept BootWait i = (boot-keeps BootWait i).0
-  user_kept BootTake i = (boot-keeps BootTake i).0
-  user_kept Leave i = (boot-keeps Leave i).0
-  user_kept Save i = (kernel-keeps Save i).0
-  user_kept Check i = (kernel-keeps Check i).0
-  user_kept Scan i = (kernel-keeps Scan i).0
-  user_kept Fill i = (kernel-keeps Fill i).0
-  user_kept Wait i = (kernel-keeps Wait i).0
-  user_kept Take i = (kernel-keeps Take i).0
-  user_kept Local i = (kernel-keeps Local i).0
-  user_kept Restore i = (kernel-keeps Restore i).0
-  user_kept Speak i = (kernel-keeps Speak i).0
-  user_kept Closing i = (kernel-keeps Closing i).0
+  user_kept : (k now : PhaseKind) → Place k p sys → follows k now ≡ true → Told k now p sys (hart_step sys) → UserKept k now sys.bus after
+  user_kept User User i e t = tt
+  user_kept User Save i e t = t.1
+  user_kept User now i e t = absurd (false≢true e)
+  user_kept Boot now i e t = (boot-keeps Boot i).0
+  user_kept BootWait now i e t = (boot-keeps BootWait i).0
+  user_kept BootTake now i e t = (boot-keeps BootTake i).0
+  user_kept Leave now i e t = (boot-keeps Leave i).0
+  user_kept Save now i e t = (kernel-keeps Save i).0
+  user_kept Check now i e t = (kernel-keeps Check i).0
+  user_kept Scan now i e t = (kernel-keeps Scan i).0
+  user_kept Fill now i e t = (kernel-keeps Fill i).0
+  user_kept Wait now i e t = (kernel-keeps Wait i).0
+  user_kept Take now i e t = (kernel-keeps Take i).0
+  user_kept Local now i e t = (kernel-keeps Local i).0
+  user_kept Restore now i e t = (kernel-keeps Restore i).0
+  user_kept Speak now i e t = (kernel-keeps Speak i).0
+  user_kept Closing now i e t = (kernel-keeps Closing i).0
 
   block-of : All → BootBlockKept sys.bus after
   block-of a = (
@@ -172,7 +176,7 @@ pub block_kept_law : (p : Phase) (sys made : System) → Known p sys → AreRegi
 unfolding Known
 block_kept_law p sys made h fit e = subst (λ z. BootBlockKept sys.bus z.bus) (sym e) (block_kept p sys fit p.kind h.0.place)
 
--- the user bytes over a step of the kernel
-pub user_kept_law : (p : Phase) (sys made : System) → Known p sys → AreRegisters sys.hart.registers → made ≡ hart_step sys → UserKept p.kind sys.bus made.bus
+-- the user bytes over a step of the kernel, or to it
+pub user_kept_law : (p : Phase) (sys : System) (now : PhaseKind) → Known p sys → AreRegisters sys.hart.registers → follows p.kind now ≡ true → Told p.kind now p sys (hart_step sys) → UserKept p.kind now sys.bus (hart_step sys).bus
 unfolding Known
-user_kept_law p sys made h fit e = subst (λ z. UserKept p.kind sys.bus z.bus) (sym e) (user_kept p sys fit p.kind h.0.place)
+user_kept_law p sys now h fit e t = user_kept p sys fit p.kind now h.0.place e t

@@ -1,3 +1,4 @@
+pub mod Told
 pub mod Agreement
 pub mod Decide
 pub mod Text
@@ -24,6 +25,7 @@ pub mod MailLaws
 pub mod MailAll
 pub mod ReadyLaws
 pub mod KeptLaws
+pub mod CauseLaws
 pub mod BreakLaws
 pub mod SpokenLaws
 pub mod StateLaws

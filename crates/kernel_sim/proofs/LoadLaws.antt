@@ -1,5 +1,5 @@
 -- Memory that was loaded holds the image, and the first step after reset lets the hart run.
-use Rattle.std.proofs.Common.{◌≡◌, ◌≢◌, ℕ, ◌+◌, ◌*◌, ◌-◌, ◌<◌, ◌≤◌, ◌==◌, Bool, true, false, List, ◌++◌, take, drop, length, Option, Some, if◌then◌else◌, refl, ap, sym, ◌∙◌, arith}
+use Rattle.std.proofs.Common.{◌≡◌, ℕ, ◌+◌, ◌*◌, ◌<◌, ◌≤◌, ◌==◌, Bool, true, false, List, ◌++◌, take, drop, length, Some, if◌then◌else◌, refl, ap, sym, ◌∙◌, arith}
 use Rattle.std.specs.Prelude.{slice_get}
 use Rattle.std.specs.Int.{w32, from_le_bytes}
 use Rattle.std.proofs.lemmas.Bool.{eqb-true}
@@ -7,11 +7,10 @@ use Rattle.std.proofs.lemmas.List.{length-drop, drop-append-le, take-append-le}
 use Rattle.std.proofs.lemmas.Option.{slice_get_within, get_or_from_slice_get}
 use Rattle.byteorder.specs.Endian.{little_number}
 use Rattle.guest_memory.specs.Memory.{load}
-use Rattle.guest_memory.specs.Bus.{BusState}
 use Rattle.guest_memory.proofs.MemoryLemmas.{load-take}
 use Rattle.rv_decode.specs.InsnTable.{insn_of}
 use Rattle.rv_decode.specs.declared.instruction.Insn.{Insn}
-use Rattle.rv_hart.specs.HartStep.{reset_hart, over, hart_step}
+use Rattle.rv_hart.specs.HartStep.{reset_hart, over}
 use Rattle.proxy_kernel.specs.Image.{word_at, HoldsInsns}
 use Rattle.proxy_kernel.specs.KernelWords.{kernel_insns, kernel_count}
 use Rattle.proxy_kernel.proofs.Computed.{kernel_length}

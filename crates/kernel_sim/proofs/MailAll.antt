@@ -28,7 +28,7 @@ use Rattle.kernel_sim.proofs.BreakLaws.{breaks_law}
 use Rattle.kernel_sim.proofs.MailLaws.{class_of, class-same, mail-step, kept-quiet}
 use Rattle.kernel_code.specs.Places.{tohost_place, fromhost_place, pc_save}
 use Rattle.kernel_code.specs.Numbers.{trap_words, tested_blocks, boot_tested_blocks, v_fromhost}
-use Rattle.fe_base.specs.MemoryMap.{boot, tohost, fromhost}
+use Rattle.fe_base.specs.MemoryMap.{tohost, fromhost}
 
 module _ (p : Phase) (sys : System) (fit : AreRegisters sys.hart.registers) where
   abbrev next : System

@@ -5,7 +5,7 @@ use Rattle.std.proofs.lemmas.Bool.{false≢true, eqb-true}
 use Rattle.rv_csr.specs.CsrTable.{csr_of}
 use Rattle.rv_csr.specs.declared.privilege.Mode.TheVariants as mode
 use Rattle.rv_hart.specs.HartStep.{System, AreRegisters, hart_step, over, counted_step}
-use Rattle.fe_base.specs.MemoryMap.{kernel_start, kernel_code_size, tohost, request, fromhost, boot}
+use Rattle.fe_base.specs.MemoryMap.{kernel_start, kernel_code_size, tohost, request, fromhost}
 use Rattle.guest_memory.specs.Memory.{load}
 use Rattle.guest_memory.specs.Bus.{IsBus}
 use Rattle.guest_memory.proofs.AreaLemmas.{bus_load-kernel}

@@ -1,6 +1,6 @@
 -- The rows of the table follow from what is known at a place of the code.
-use Rattle.std.proofs.Common.{◌≡◌, ◌≢◌, ℕ, zero, suc, ◌+◌, ◌-◌, ◌*◌, ◌%◌, ◌^◌, ◌<◌, ◌≤◌, ◌==◌, Bool, true, false, ◌&&◌, ◌||◌, ◌⊎◌, if◌then◌else◌, inl, inr, List, [], ◌∷◌, get_or, length, refl, ap, sym, subst, ◌∙◌, arith}
-use Rattle.std.specs.Prelude.{⊤, nat_le, slice_index, slice_set}
+use Rattle.std.proofs.Common.{◌≡◌, ◌≢◌, ℕ, zero, suc, ◌+◌, ◌-◌, ◌*◌, ◌%◌, ◌^◌, ◌<◌, ◌≤◌, ◌==◌, Bool, true, false, ◌&&◌, ◌||◌, ◌⊎◌, if◌then◌else◌, inl, inr, List, length, refl, ap, sym, subst, ◌∙◌, arith}
+use Rattle.std.specs.Prelude.{nat_le, slice_index, slice_set}
 use Rattle.std.proofs.lemmas.Bool.{false≢true, eqb-true, eqb-false, and_parts}
 use Rattle.std.proofs.lemmas.Bool.Decides.{nat_tests}
 use Rattle.fe_base.specs.MemoryMap.{kernel_start, kernel_code_size, frame, request, kernel_variables, boot}
@@ -8,16 +8,18 @@ use Rattle.rv_decode.specs.Alignment.{instruction_alignment}
 use Rattle.rv_alu.specs.declared.arithmetic.AluOp.TheVariants as op
 use Rattle.rv_csr.specs.CsrTable.{csr_of}
 use Rattle.rv_csr.specs.Fields.{instruction_aligned}
-use Rattle.rv_csr.specs.declared.privilege.Mode.TheVariants as mode
-use Rattle.rv_hart.specs.HartStep.{System}
+use Rattle.rv_hart.specs.HartStep.{System, over}
 use Rattle.rv_hart.specs.declared.debug.Run.TheVariants.{Running}
 use Rattle.guest_memory.specs.Memory.{load}
-use Rattle.guest_memory.specs.Bus.{bus_load}
 use Rattle.guest_memory.proofs.AreaLemmas.{bus_load-kernel}
 use Rattle.plain_machine.specs.UserStep.{is_user}
 use Rattle.plain_machine.specs.Messages.{is_counter_access}
 use Rattle.plain_machine.specs.KernelPart.{user_byte}
-use Rattle.kernel_steps.specs.Terms.{Term, Lit, Var, Bin, Aligned, Unknown, Is}
+use Rattle.kernel_sim.proofs.ChangeLaws.{few-scanned}
+use Rattle.kernel_sim.specs.Advance.{BeginHolds}
+use Rattle.kernel_sim.specs.Begins.{begun_hart}
+use Rattle.kernel_sim.proofs.BeginLaws.{begun}
+use Rattle.kernel_steps.specs.Terms.{Term, Lit, Var, Bin, Aligned, Is}
 use Rattle.kernel_steps.specs.States.{State, CodeIs, Describes}
 use Rattle.kernel_steps.specs.Successors.{reg}
 use Rattle.kernel_steps.specs.Blocks.{Here, same, same_pmp}
@@ -38,9 +40,9 @@ use Rattle.kernel_sim.specs.declared.phase.PhaseKind.TheVariants.{Boot, BootWait
 use Rattle.kernel_sim.specs.declared.phase.Phase.{Phase}
 use Rattle.kernel_sim.specs.declared.phase.UserState.{UserState}
 use Rattle.kernel_sim.specs.Phases.{dword, request_of, message}
-use Rattle.kernel_sim.specs.Stages.{Stage, Saving, Checking, Starting, Scanning, Looked, Past, Full, Found, Filling, Waiting, Tested, Taking, NoCall, Outside, Long, Breaking, Restoring, Choosing, base, Saying, Said, Ending, Ended, stage_kind, stage_number, Says, ScanIs, ByteIs, CauseIs, PcIs, Extra, Links, InKernel, BootStage, boot_kind, boot_number, InBoot, InUser, Place, HoldsAs, BreaksAre, Known}
-use Rattle.kernel_sim.specs.Steps.{PartIs}
-use Rattle.kernel_sim.specs.Rows.{mode_of, InEvery, IsSet, HasScratch, MayHaveScratch, SetRow, in_frame, InFrame, IsSaved, IsRestored, IsTold, IsCallOrTold, InCall, IsPathByte, boot_request, Row}
+use Rattle.kernel_sim.specs.Stages.{Stage, Saving, Checking, Starting, Scanning, Looked, Past, Full, Restoring, Choosing, base, Saying, Said, Ending, Ended, stage_kind, stage_number, Says, ScanIs, ByteIs, CauseIs, PcIs, Extra, InKernel, boot_number, InBoot, InUser, Place, HoldsAs, BreaksAre, Known}
+use Rattle.kernel_sim.proofs.Told.{PartIs}
+use Rattle.kernel_sim.specs.Rows.{mode_of, IsSet, HasScratch, SetRow, in_frame, InFrame, IsSaved, IsTold, IsCallOrTold, InCall, IsPathByte, boot_request, Row}
 use Rattle.kernel_sim.specs.Holds.{Holds}
 use Rattle.kernel_sim.proofs.Gates.{number_code, kind_code, cell_of}
 use Rattle.kernel_sim.proofs.PlaceLaws.{code-of, boot-code}
@@ -487,7 +489,7 @@ module _ (p : Phase) (sys : System) where
   rows User h b x = in-user h.place b
   rows Save h b x = save h.place b
   rows Check h b x = check h.place b
-  rows Scan h b x = let c = call-parts Scan h.place (test-here Scan h.place) refl (λ z. cc) b in (c.0, (c.1, x, path-bytes h.place))
+  rows Scan h b x = let c = call-parts Scan h.place (test-here Scan h.place) refl (λ z. cc) b in (c.0, (c.1, x, path-bytes h.place, few-scanned p sys h.place))
   rows Fill h b x = let c = call-parts Fill h.place (test-here Fill h.place) refl (λ z. cc) b in (c.0, (c.1, x))
   rows Wait h b x = let c = call-parts Wait h.place (test-here Wait h.place) refl (λ z. cc) b in (c.0, (c.1, x))
   rows Take h b x = let c = call-parts Take h.place (test-here Take h.place) refl (λ z. cc) b in (c.0, c.1)
@@ -526,3 +528,7 @@ holds-known p sys h =
       row = t.1;
       known = h;
     }
+
+-- so has what is known where the hart begins
+pub begin_holds_known : BeginHolds
+begin_holds_known p bus whole l b = holds-known p (over bus begun_hart) (begun p (over bus begun_hart) refl whole l b.kind b.tohost b.fromhost b.request)

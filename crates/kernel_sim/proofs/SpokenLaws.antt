@@ -1,5 +1,5 @@
 -- What a step stores to TOHOST while the kernel speaks and closes.
-use Rattle.std.proofs.Common.{◌≡◌, ℕ, ◌+◌, ◌-◌, ◌*◌, ◌^◌, ◌<◌, ◌==◌, Bool, true, false, ◌&&◌, ◌||◌, ◌⊎◌, inl, inr, Option, Some, None, List, [], ◌∷◌, get_or, refl, ap, sym, subst, ◌∙◌, arith, if◌then◌else◌}
+use Rattle.std.proofs.Common.{◌≡◌, ◌≢◌, ℕ, ◌+◌, ◌-◌, ◌*◌, ◌^◌, ◌<◌, ◌==◌, Bool, true, false, ◌&&◌, ◌||◌, ◌⊎◌, inl, inr, Option, Some, None, List, [], ◌∷◌, get_or, refl, ap, sym, subst, ◌∙◌, arith, if◌then◌else◌}
 use Rattle.std.specs.Prelude.{nat_le, not, slice_index, min}
 use Rattle.std.proofs.lemmas.Bool.{false≢true, eqb-true, eqb-false, and_parts}
 use Rattle.rv_alu.specs.declared.arithmetic.AluOp.TheVariants as op
@@ -26,7 +26,7 @@ use Rattle.kernel_code.specs.Shorthand.{cells_0, cells_1, cells_2, cells_3, cell
 use Rattle.kernel_sim.specs.Phases.{message, console_word, dword, kernel_kind, kind_of, kind_now, text_by, next_phase, phase_from}
 use Rattle.kernel_sim.specs.Stages.{Stage, Choosing, base, Saying, Said, Ending, Ended, stage_kind, stage_number, Says, Extra, Links, InKernel, HoldsAs, Known}
 use Rattle.kernel_sim.specs.Ready.{need, NeedIs}
-use Rattle.kernel_sim.specs.Stores.{exit_word, NextByte, NoByte, ExitWord, Stores}
+use Rattle.kernel_sim.specs.Stores.{exit_word, NextByte, NoByte, NoExit, ExitWord, Stores}
 use Rattle.kernel_steps.proofs.Soundness.{CellsAre-get}
 use Rattle.kernel_steps.proofs.GraphLaws.{led, same-path, then-l, then-r}
 use Rattle.kernel_steps.proofs.Rebase.{with_var, fresh, state_avoids, learn_cell}
@@ -51,10 +51,13 @@ abbrev keeps_word : State → Bool
 keeps_word t = same (get_or t.cells tohost_cell Unknown) (Var v_before) && not (t.at == pc_put_done)
 
 abbrev says_word : ℕ → ℕ → State → Bool
-says_word k at t = keeps_word t || (at == pc_put_store && t.at == pc_put_done && nat_le trap_words k)
+says_word k at t = (keeps_word t || (at == pc_put_store && t.at == pc_put_done && nat_le trap_words k)) && not (t.at == pc_idle)
+
+abbrev stays_idle : ℕ → State → Bool
+stays_idle at t = (not (at == pc_idle) || t.at == pc_idle) && (not (t.at == pc_idle) || at == pc_idle)
 
 abbrev ends_word : ℕ → ℕ → State → Bool
-ends_word k at t = (keeps_word t && (not (at == pc_idle) || t.at == pc_idle)) || (at == pc_closing_store && t.at == pc_idle && same (get_or t.cells tohost_cell Unknown) (exit_sym (k == counter_end_blocks)) && (k == trap_end_blocks || k == counter_end_blocks))
+ends_word k at t = (keeps_word t && stays_idle at t) || (at == pc_closing_store && t.at == pc_idle && same (get_or t.cells tohost_cell Unknown) (exit_sym (k == counter_end_blocks)) && (k == trap_end_blocks || k == counter_end_blocks))
 
 abbrev all_st : (State → Bool) → List State → Bool
 all_st f [] = true
@@ -107,11 +110,14 @@ module _ (user : List ℕ) (env : ℕ → ℕ) (sys : System) (fit : AreRegister
   abbrev pub Kept : Type 0
   Kept = (w0 next ≡ w0 sys) × ((next.hart.pc == pc_put_done) ≡ false)
 
+  abbrev pub SaysStored : ℕ → Type 0
+  SaysStored k = Kept ⊎ ((sys.hart.pc ≡ pc_put_store) × (next.hart.pc ≡ pc_put_done) × (nat_le trap_words k ≡ true) × (next.hart.mode ≡ mode.Machine))
+
   abbrev pub SaysNext : ℕ → Type 0
-  SaysNext k = Kept ⊎ ((sys.hart.pc ≡ pc_put_store) × (next.hart.pc ≡ pc_put_done) × (nat_le trap_words k ≡ true) × (next.hart.mode ≡ mode.Machine))
+  SaysNext k = SaysStored k × (next.hart.pc ≢ pc_idle)
 
   abbrev pub EndsNext : ℕ → Type 0
-  EndsNext k = ((w0 next ≡ w0 sys) × (sys.hart.pc ≡ pc_idle → next.hart.pc ≡ pc_idle)) ⊎ ((sys.hart.pc ≡ pc_closing_store) × (next.hart.pc ≡ pc_idle) × Is env1 (exit_sym (k == counter_end_blocks)) (w0 next) × ((k == trap_end_blocks || k == counter_end_blocks) ≡ true))
+  EndsNext k = ((w0 next ≡ w0 sys) × (sys.hart.pc ≡ pc_idle → next.hart.pc ≡ pc_idle) × (next.hart.pc ≡ pc_idle → sys.hart.pc ≡ pc_idle)) ⊎ ((sys.hart.pc ≡ pc_closing_store) × (next.hart.pc ≡ pc_idle) × Is env1 (exit_sym (k == counter_end_blocks)) (w0 next) × ((k == trap_end_blocks || k == counter_end_blocks) ≡ true))
 
   kept : (t : State) → keeps_word t ≡ true → Describes kernel user env1 t next → Kept
   kept t e m = let p = and_parts (same (get_or t.cells tohost_cell Unknown) (Var v_before)) (not (t.at == pc_put_done)) e in (cell-is t (Var v_before) p.0 m, ap (λ z. z == pc_put_done) m.at ∙ not-true (t.at == pc_put_done) p.1)
@@ -140,7 +146,11 @@ module _ (user : List ℕ) (env : ℕ → ℕ) (sys : System) (fit : AreRegister
       let e : says_by k w.state ≡ true = go (number_code k == choosing_blocks) (ap (λ z. z == 13) c) (at-place k shut w) in
       let p = and_parts (state_avoids v_before w.state) (tries false (successors kernel (named w.state)) (all_st (says_word k w.state.at))) e in
       tried (SaysNext k) (named w.state) (says_word k w.state.at) p.1 (means1 w.state p.0 w.describes)
-      (λ t f m. orb (keeps_word t) (w.state.at == pc_put_store && t.at == pc_put_done && nat_le trap_words k) f (λ q. inl (kept t q m)) (λ q. inr (stored t q m)))
+      (λ t f m.
+      let g = and_parts (keeps_word t || (w.state.at == pc_put_store && t.at == pc_put_done && nat_le trap_words k)) (not (t.at == pc_idle)) f in (
+        orb (keeps_word t) (w.state.at == pc_put_store && t.at == pc_put_done && nat_le trap_words k) g.0 (λ q. inl (kept t q m)) (λ q. inr (stored t q m)),
+        λ z. eqb-false t.at pc_idle (not-true (t.at == pc_idle) g.1) (sym m.at ∙ z),
+      ))
     where
       go : (x : Bool) → x ≡ true → ◌≡◌ {A = Bool} (elim x [ true ↦ says_by k w.state | false ↦ elim (number_code k == 14) [ true ↦ ends_by k w.state | false ↦ true ] ]) true → says_by k w.state ≡ true
       go true e f = f
@@ -157,17 +167,21 @@ module _ (user : List ℕ) (env : ℕ → ℕ) (sys : System) (fit : AreRegister
       let e : ends_by k w.state ≡ true = go (number_code k == choosing_blocks) (number_code k == 14) (ap (λ z. z == 13) c) (ap (λ z. z == 14) c) (at-place k shut w) in
       let p = and_parts (state_avoids v_before w.state) (tries false (successors kernel (named w.state)) (all_st (ends_word k w.state.at))) e in
       tried (EndsNext k) (named w.state) (ends_word k w.state.at) p.1 (means1 w.state p.0 w.describes)
-      (λ t f m. orb (keeps_word t && (not (w.state.at == pc_idle) || t.at == pc_idle)) (w.state.at == pc_closing_store && t.at == pc_idle && same (get_or t.cells tohost_cell Unknown) (exit_sym (k == counter_end_blocks)) && (k == trap_end_blocks || k == counter_end_blocks)) f (λ q. inl (stays t q m)) (λ q. inr (stored t q m)))
+      (λ t f m. orb (keeps_word t && stays_idle w.state.at t) (w.state.at == pc_closing_store && t.at == pc_idle && same (get_or t.cells tohost_cell Unknown) (exit_sym (k == counter_end_blocks)) && (k == trap_end_blocks || k == counter_end_blocks)) f (λ q. inl (stays t q m)) (λ q. inr (stored t q m)))
     where
       go : (x y : Bool) → x ≡ false → y ≡ true → ◌≡◌ {A = Bool} (elim x [ true ↦ says_by k w.state | false ↦ elim y [ true ↦ ends_by k w.state | false ↦ true ] ]) true → ends_by k w.state ≡ true
       go false true e g f = f
       go true y e g f = absurd (false≢true (sym e))
       go false false e g f = absurd (false≢true g)
 
-      stays : (t : State) → (keeps_word t && (not (w.state.at == pc_idle) || t.at == pc_idle)) ≡ true → Describes kernel user env1 t next → (w0 next ≡ w0 sys) × (sys.hart.pc ≡ pc_idle → next.hart.pc ≡ pc_idle)
+      stays : (t : State) → (keeps_word t && stays_idle w.state.at t) ≡ true → Describes kernel user env1 t next → (w0 next ≡ w0 sys) × (sys.hart.pc ≡ pc_idle → next.hart.pc ≡ pc_idle) × (next.hart.pc ≡ pc_idle → sys.hart.pc ≡ pc_idle)
       stays t q m =
-          let a = and_parts (keeps_word t) (not (w.state.at == pc_idle) || t.at == pc_idle) q in
-          ((kept t a.0 m).0, λ e. orb (not (w.state.at == pc_idle)) (t.at == pc_idle) a.1 (λ r. absurd (eqb-false w.state.at pc_idle (not-true (w.state.at == pc_idle) r) (sym w.describes.at ∙ e))) (λ r. m.at ∙ eqb-true t.at pc_idle r))
+          let a = and_parts (keeps_word t) (stays_idle w.state.at t) q in
+          let b = and_parts (not (w.state.at == pc_idle) || t.at == pc_idle) (not (t.at == pc_idle) || w.state.at == pc_idle) a.1 in (
+            (kept t a.0 m).0,
+            λ e. orb (not (w.state.at == pc_idle)) (t.at == pc_idle) b.0 (λ r. absurd (eqb-false w.state.at pc_idle (not-true (w.state.at == pc_idle) r) (sym w.describes.at ∙ e))) (λ r. m.at ∙ eqb-true t.at pc_idle r),
+            λ e. orb (not (t.at == pc_idle)) (w.state.at == pc_idle) b.1 (λ r. absurd (eqb-false t.at pc_idle (not-true (t.at == pc_idle) r) (sym m.at ∙ e))) (λ r. w.describes.at ∙ eqb-true w.state.at pc_idle r),
+          )
 
       stored : (t : State) → (w.state.at == pc_closing_store && t.at == pc_idle && same (get_or t.cells tohost_cell Unknown) (exit_sym (k == counter_end_blocks)) && (k == trap_end_blocks || k == counter_end_blocks)) ≡ true → Describes kernel user env1 t next → (sys.hart.pc ≡ pc_closing_store) × (next.hart.pc ≡ pc_idle) × Is env1 (exit_sym (k == counter_end_blocks)) (w0 next) × ((k == trap_end_blocks || k == counter_end_blocks) ≡ true)
       stored t q m =
@@ -220,13 +234,16 @@ module _ (p : Phase) (sys : System) (fit : AreRegisters sys.hart.registers) (fit
   one-more : (pc : ℕ) → pc ≡ pc_put_done → p.text.posted < 400 → (if pc == pc_put_done then min (p.text.posted + 1) (2 ^ 32 - 1) else p.text.posted) ≡ p.text.posted + 1
   one-more pc e l = let k : min (p.text.posted + 1) (2 ^ 32 - 1) ≡ p.text.posted + 1 = omega arith in rw e k
 
-  abbrev SpeakResult : Type 0
-  SpeakResult = NoByte p (dword after.bus tohost) (text_by Speak (kind_now after) p after).posted ⊎ NextByte p (dword after.bus tohost) (text_by Speak (kind_now after) p after).posted
+  abbrev SpeakStored : Type 0
+  SpeakStored = NoByte p (dword after.bus tohost) (text_by Speak (kind_now after) p after).posted ⊎ NextByte p (dword after.bus tohost) (text_by Speak (kind_now after) p after).posted
 
-  no-byte : (user : List ℕ) (env : ℕ → ℕ) → Before → Kept user env sys fit whole → SpeakResult
+  abbrev SpeakResult : Type 0
+  SpeakResult = SpeakStored × (after.hart.pc ≢ pc_idle)
+
+  no-byte : (user : List ℕ) (env : ℕ → ℕ) → Before → Kept user env sys fit whole → SpeakStored
   no-byte user env b k = inl (now-word ∙ k.0 ∙ sym b, same-text (kind_now after) k.1)
 
-  next-byte : after.hart.mode ≡ mode.Machine → after.hart.pc ≡ pc_put_done → p.tohost ≡ 0 → p.text.posted < 400 → ((after.hart.pc == pc_put_done) ≡ true → bus_load after.bus tohost 8 ≡ console_word (slice_index (message p.text) p.text.posted)) → SpeakResult
+  next-byte : after.hart.mode ≡ mode.Machine → after.hart.pc ≡ pc_put_done → p.tohost ≡ 0 → p.text.posted < 400 → ((after.hart.pc == pc_put_done) ≡ true → bus_load after.bus tohost 8 ≡ console_word (slice_index (message p.text) p.text.posted)) → SpeakStored
   unfolding kernel_kind
   next-byte m e z l word =
       let k : kind_now after ≡ Speak = ap (λ y. kind_of y after.hart.pc) m ∙ ap kernel_kind e in
@@ -238,25 +255,34 @@ module _ (p : Phase) (sys : System) (fit : AreRegisters sys.hart.registers) (fit
       go : (st : Stage) → stage_kind st ≡ Speak → (w : Here kernel i.user i.env blocks (stage_number st) sys) → Links st p.user i.env → Extra st p i.user i.env → SpeakResult
       go Choosing e w l x = by (says-step i.user i.env sys fit whole choosing_blocks refl refl w)
         where
+          stored : SaysStored i.user i.env sys fit whole choosing_blocks → SpeakStored
+          stored (inl k) = no-byte i.user i.env b k
+          stored (inr h) = absurd (false≢true h.2)
+
           by : SaysNext i.user i.env sys fit whole choosing_blocks → SpeakResult
-          by (inl k) = no-byte i.user i.env b k
-          by (inr h) = absurd (false≢true h.2)
+          by h = (stored h.0, h.1)
       go (Saying c t) e w l x = by (says-step i.user i.env sys fit whole (base c + 2 * t) (shut-of (Saying c t) p i.user i.env x) (high-code (base c + 2 * t) (base-low c t)) w)
         where
           word : WordOk given i.user i.env
           word = (saying given i.user i.env c t w l x).1
 
+          stored : SaysStored i.user i.env sys fit whole (base c + 2 * t) → SpeakStored
+          stored (inl k) = no-byte i.user i.env b k
+          stored (inr h) = next-byte h.3 h.1 (held-zero w.describes.mode h.0 n) (let z = x.2 in let y = x.3 in omega arith) word
+
           by : SaysNext i.user i.env sys fit whole (base c + 2 * t) → SpeakResult
-          by (inl k) = no-byte i.user i.env b k
-          by (inr h) = next-byte h.3 h.1 (held-zero w.describes.mode h.0 n) (let z = x.2 in let y = x.3 in omega arith) word
+          by h = (stored h.0, h.1)
       go (Said c t) e w l x = by (says-step i.user i.env sys fit whole (base c + 2 * t + 1) (shut-of (Said c t) p i.user i.env x) (high-code (base c + 2 * t + 1) (let z = base-low c t in omega arith)) w)
         where
           word : WordOk given i.user i.env
           word = (said given i.user i.env c t w l x).1
 
+          stored : SaysStored i.user i.env sys fit whole (base c + 2 * t + 1) → SpeakStored
+          stored (inl k) = no-byte i.user i.env b k
+          stored (inr h) = next-byte h.3 h.1 (held-zero w.describes.mode h.0 n) (let z = x.2 in let y = x.3 in omega arith) word
+
           by : SaysNext i.user i.env sys fit whole (base c + 2 * t + 1) → SpeakResult
-          by (inl k) = no-byte i.user i.env b k
-          by (inr h) = next-byte h.3 h.1 (held-zero w.describes.mode h.0 n) (let z = x.2 in let y = x.3 in omega arith) word
+          by h = (stored h.0, h.1)
       go st e w l x = cc
 
   exit-is : (c : Bool) (env : ℕ → ℕ) (v : ℕ) → Says p.text env → p.text.counter ≡ c → Is (with_var env v_before (load sys.bus.kernel tohost_place 8)) (exit_sym c) v → v ≡ exit_word p.text
@@ -264,20 +290,20 @@ module _ (p : Phase) (sys : System) (fit : AreRegisters sys.hart.registers) (fit
   exit-is false env v h e i = let k = h.cause_is in let q : 2 * (128 + p.text.cause) + 1 ≡ 2 * (128 + env v_cause) + 1 = ap (λ z. 2 * (128 + z) + 1) k in rw e (i ∙ omega arith)
 
   abbrev CloseResult : Type 0
-  CloseResult = ((dword after.bus tohost ≡ p.tohost) × (sys.hart.pc ≡ pc_idle → after.hart.pc ≡ pc_idle)) ⊎ ExitWord p sys.hart after.hart (dword after.bus tohost)
+  CloseResult = NoExit p sys.hart after.hart (dword after.bus tohost) ⊎ ExitWord p sys.hart after.hart (dword after.bus tohost)
 
   ends : (c : Bool) (k : ℕ) → (k == counter_end_blocks) ≡ c → (nat_le store_gates k || number_code k == 99) ≡ false → number_code k ≡ 14 → (user : List ℕ) (env : ℕ → ℕ) → Here kernel user env blocks k sys → Says p.text env → p.text.counter ≡ c → Before → Need_held → CloseResult
   ends c k q shut code user env w h e b n = by (ends-step user env sys fit whole k shut code w)
     where
       by : EndsNext user env sys fit whole k → CloseResult
-      by (inl kept_it) = inl (now-word ∙ kept_it.0 ∙ sym b, kept_it.1)
+      by (inl kept_it) = inl (now-word ∙ kept_it.0 ∙ sym b, kept_it.1, kept_it.2)
       by (inr s) = inr (held-zero2 w.describes.mode s.0 n, now-word ∙ exit-is c env (load after.bus.kernel tohost_place 8) h e (subst (λ z. Is (with_var env v_before (load sys.bus.kernel tohost_place 8)) (exit_sym z) (load after.bus.kernel tohost_place 8)) q s.2), s.0, s.1)
 
   ended : (k : ℕ) → (k == trap_end_blocks || k == counter_end_blocks) ≡ false → (nat_le store_gates k || number_code k == 99) ≡ false → number_code k ≡ 14 → (user : List ℕ) (env : ℕ → ℕ) → Here kernel user env blocks k sys → Before → CloseResult
   ended k q shut code user env w b = by (ends-step user env sys fit whole k shut code w)
     where
       by : EndsNext user env sys fit whole k → CloseResult
-      by (inl kept_it) = inl (now-word ∙ kept_it.0 ∙ sym b, kept_it.1)
+      by (inl kept_it) = inl (now-word ∙ kept_it.0 ∙ sym b, kept_it.1, kept_it.2)
       by (inr s) = absurd (false≢true (sym q ∙ s.3))
 
   close : (i : InKernel Closing p sys) → Before → Need_held → CloseResult

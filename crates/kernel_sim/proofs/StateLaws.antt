@@ -1,6 +1,6 @@
 -- What the kernel part of the call is in a phase that holds, and what is told of a step.
-use Rattle.std.proofs.Common.{◌≡◌, ℕ, ◌-◌, ◌*◌, ◌+◌, ◌==◌, Bool, true, false, ◌&&◌, ◌||◌, List, [], ◌∷◌, refl, ap, sym, subst, ◌∙◌, arith, nat_lt}
-use Rattle.std.specs.Prelude.{slice_index, slice_set}
+use Rattle.std.proofs.Common.{◌≡◌, ℕ, ◌-◌, ◌*◌, ◌+◌, ◌==◌, Bool, true, false, ◌&&◌, ◌||◌, inl, inr, List, [], ◌∷◌, refl, ap, sym, subst, ◌∙◌, arith}
+use Rattle.std.specs.Prelude.{slice_set}
 use Rattle.std.proofs.lemmas.Bool.{false≢true, and_parts}
 use Rattle.rv_csr.specs.CsrTable.{csr_of}
 use Rattle.rv_hart.specs.HartStep.{System, IsHart, hart_step}
@@ -24,13 +24,14 @@ use Rattle.kernel_code.specs.Shorthand.{cells_0, cells_1, cells_2, cells_3, cell
 use Rattle.plain_machine.specs.KernelPart.{Part, posts, scans, first_part}
 use Rattle.kernel_sim.specs.Phases.{kind_now, next_phase, request_of}
 use Rattle.kernel_sim.specs.Rows.{call_part}
-use Rattle.kernel_sim.specs.Steps.{follows, Told, PartIs}
+use Rattle.kernel_sim.specs.Steps.{follows}
+use Rattle.kernel_sim.proofs.Told.{Told, PartIs}
 use Rattle.kernel_sim.specs.Stages.{Stage, Starting, Scanning, Looked, Past, Full, Found, Filling, Waiting, Tested, NoCall, Outside, Long, Breaking, Ending, Ended, stage_kind, stage_number, direct, part, WasAsked, Links, Extra, InKernel, HoldsAs, Known}
 use Rattle.kernel_steps.proofs.Soundness.{CellsAre-get}
 use Rattle.kernel_steps.proofs.GraphLaws.{same-path}
 use Rattle.kernel_steps.proofs.Tests.{blocks_all, blocks_all-at}
 use Rattle.kernel_sim.proofs.Gates.{cell_of}
-use Rattle.kernel_sim.proofs.PartLaws.{part-is, break-part, break-gives}
+use Rattle.kernel_sim.proofs.PartLaws.{part-is, break-part}
 use Rattle.kernel_sim.proofs.StepLaws.{step_told}
 use Rattle.kernel_code.specs.Numbers.{waiting_blocks, tested_blocks, v_word1, v_word2, v_word3, v_word4, v_word5, v_break, v_word0}
 use Rattle.kernel_code.specs.Places.{request_cell}
@@ -85,12 +86,10 @@ module _ (p : Phase) (sys : System) where
   local i = go i.stage i.staged i.links i.extra
     where
       go : (st : Stage) → stage_kind st ≡ Local → Links st p.user i.env → Extra st p i.user i.env → PartIs Local p sys.bus
-      go NoCall e l x = (_, part-in NoCall i.env i.user _ i.here.describes.memory.user_is l l.break_is x.0)
-      go Outside e l x = (_, part-in Outside i.env i.user _ i.here.describes.memory.user_is l l.break_is x.0)
-      go Long e l x = (_, part-in Long i.env i.user _ i.here.describes.memory.user_is l l.break_is x.0)
-      go Breaking e l x =
-          let a = break-gives (nat_lt (slice_index p.user.regs 10) p.user.first_break) (nat_lt 15728640 (slice_index p.user.regs 10)) p.user.brk (slice_index p.user.regs 10) in
-          (a.0, break-part p.user.regs sys.bus.user p.user.brk p.user.first_break (sym (l.regs_are 17 (omega arith)) ∙ x) ∙ a.1)
+      go NoCall e l x = (_, inl (part-in NoCall i.env i.user _ i.here.describes.memory.user_is l l.break_is x.0))
+      go Outside e l x = (_, inl (part-in Outside i.env i.user _ i.here.describes.memory.user_is l l.break_is x.0))
+      go Long e l x = (_, inl (part-in Long i.env i.user _ i.here.describes.memory.user_is l l.break_is x.0))
+      go Breaking e l x = (_, inr (break-part p.user.regs sys.bus.user p.user.brk p.user.first_break (sym (l.regs_are 17 (omega arith)) ∙ x)))
       go st e l x = cc
 
   module _ (user : List ℕ) (env : ℕ → ℕ) (w : State) (m : Describes kernel user env w sys) where

@@ -1,12 +1,10 @@
 -- What one step of the hart does to a phase, and what a write of the host does: the laws that a run of kernel and host stands on.
-use Rattle.std.specs.Prelude.{◌≡◌, ◌⊎◌, ℕ, ◌^◌, ◌<◌, true, ⊤}
-use Rattle.fe_base.specs.MemoryMap.{tohost, request}
-use Rattle.guest_memory.specs.Bus.{IsBus, with_beat}
-use Rattle.rv_hart.specs.HartStep.{System, over, hart_step}
+use Rattle.std.specs.Prelude.{◌≡◌, ℕ, ◌^◌, ◌<◌, ◌≤◌, true, ⊤}
+use Rattle.fe_base.specs.MemoryMap.{tohost, fromhost, request}
+use Rattle.guest_memory.specs.Bus.{BusState, IsBus, with_beat}
+use Rattle.rv_hart.specs.HartStep.{HartState, System, over, hart_step}
 use Rattle.rv_hart.specs.Laws.{IsSystem}
 use Rattle.plain_machine.specs.KernelPart.{posts}
-use Rattle.rv_csr.specs.declared.privilege.Mode.TheVariants as mode
-use Rattle.kernel_code.specs.StepsLeft.{left_at, is_left_out, are_bounds}
 use Rattle.kernel_sim.specs.declared.phase.PhaseKind.{PhaseKind}
 use Rattle.kernel_sim.specs.declared.phase.PhaseKind.TheVariants.{Boot, BootWait, Fill, Wait}
 use Rattle.kernel_sim.specs.declared.phase.Phase.{Phase}
@@ -14,8 +12,11 @@ use Rattle.kernel_sim.specs.Phases.{dword, request_of, next_phase}
 use Rattle.kernel_sim.specs.Rows.{call_part, boot_request}
 use Rattle.kernel_sim.specs.Holds.{Holds}
 use Rattle.kernel_sim.specs.Steps.{follows}
+use Rattle.kernel_sim.specs.Traps.{TrapAfter}
 use Rattle.kernel_sim.specs.Changes.{UserAfter, TextAfter, ScannedAfter, StepsCounted, Waits, CodeKept}
 use Rattle.kernel_sim.specs.Stores.{Stores}
+use Rattle.kernel_sim.specs.Progress.{steps_left, Progress}
+use Rattle.kernel_sim.specs.Begins.{begun_hart, IsLoaded}
 use Rattle.kernel_sim.specs.Mailbox.{MailboxKept}
 use Rattle.kernel_sim.specs.Kept.{UserKept, BootBlockKept}
 use Rattle.kernel_sim.specs.HostWrites.{HostWrite, written}
@@ -36,10 +37,22 @@ pub record Advances (p : Phase) (old new : System) (q : Phase) : Type 0 where
   pub stores : Stores p.kind p old.hart new.hart q
   pub mailbox : MailboxKept p.kind q.kind old.bus new.bus
   pub waits : Waits p q
-  pub user_bytes : UserKept p.kind old.bus new.bus
+  pub trap : TrapAfter p.kind q.kind old new
+  pub user_bytes : UserKept p.kind q.kind old.bus new.bus
   pub boot_block : BootBlockKept old.bus new.bus
   pub code : CodeKept old.bus new.bus
   pub counted : StepsCounted p.kind old.hart new.hart
+
+-- the phase of a hart that begins: Boot, with what the mailbox holds
+pub record IsBegun (p : Phase) (bus : BusState) : Type 0 where
+  pub kind : p.kind ≡ Boot
+  pub tohost : p.tohost ≡ dword bus tohost
+  pub fromhost : p.fromhost ≡ dword bus fromhost
+  pub request : p.request ≡ request_of bus
+
+-- over loaded memory, such a phase holds of the hart that begins
+abbrev pub BeginHolds : Type 0
+BeginHolds = (p : Phase) (bus : BusState) → IsBus bus → IsLoaded bus → IsBegun p bus → Holds p (over bus begun_hart)
 
 -- a step of the hart from a phase that holds leads to the next phase, which holds
 abbrev pub StepsAdvance : Type 0
@@ -49,14 +62,18 @@ StepsAdvance = (p : Phase) (sys : System) → Holds p sys → IsSystem sys → H
 abbrev pub HostWritesHold : Type 0
 HostWritesHold = (p : Phase) (sys : System) (at value : ℕ) → value < 2 ^ 64 → IsBus sys.bus → HostWrite at value p → Holds p sys → Holds (written at value p) (over (with_beat sys.bus at value) sys.hart)
 
--- a step from the first place to the second lowers the number of steps left, or is one of those that do not: a wait that goes on, a byte that is put or passed, and those from the exit word on
-abbrev pub Lowers : ℕ → ℕ → Type 0
-Lowers from to = (is_left_out from to ≡ true) ⊎ (left_at to < left_at from)
-
--- each step of the kernel does
+-- each step makes progress: it lowers the number of steps left, or is one of those that need not
 abbrev pub StepsLower : Type 0
-StepsLower = (p : Phase) (sys : System) → Holds p sys → IsSystem sys → sys.hart.mode ≡ mode.Machine → (hart_step sys).hart.mode ≡ mode.Machine → Lowers sys.hart.pc (hart_step sys).hart.pc
+StepsLower =
+    (p : Phase) (sys : System) → Holds p sys → IsSystem sys
+    → Progress p sys.hart (next_phase p (hart_step sys)) (hart_step sys).hart
 
--- from a call or a trap there are at most 398 steps left, behind a byte that was put 397; a byte of a path that is passed adds at most 15, and from reset there are at most 398
+-- a write of the host does not raise the number of steps left
+abbrev pub WritesLower : Type 0
+WritesLower =
+    (p : Phase) (hart : HartState) (at value : ℕ) → HostWrite at value p
+    → steps_left hart (written at value p) ≤ steps_left hart p
+
+-- from where the hart begins there are at most 400 steps left
 abbrev pub StepsBounded : Type 0
-StepsBounded = are_bounds ≡ true
+StepsBounded = (p : Phase) → steps_left begun_hart p ≤ 400

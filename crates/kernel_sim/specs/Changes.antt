@@ -1,5 +1,5 @@
 -- Which fields of a phase a step changes, and how; all others stay.
-use Rattle.std.specs.Prelude.{◌≡◌, ◌≢◌, ◌⊎◌, ℕ, ◌+◌, ◌≤◌, ◌==◌, ◌&&◌, ⊤, if◌then◌else◌, List, [], ◌∷◌, slice_index}
+use Rattle.std.specs.Prelude.{◌≡◌, ◌⊎◌, ℕ, ◌+◌, ◌≤◌, ◌==◌, ◌&&◌, List, [], ◌∷◌, slice_index}
 use Rattle.fe_base.specs.Memory.{counted}
 use Rattle.fe_base.specs.MemoryMap.{boot, kernel_code_size}
 use Rattle.guest_memory.specs.Bus.{BusState}
@@ -9,10 +9,10 @@ use Rattle.rv_alu.specs.declared.causes.Cause.{Cause}
 use Rattle.rv_hart.specs.HartStep.{HartState, System}
 use Rattle.plain_machine.specs.UserStep.{UserState as ProgramState, next, call, trap, user_step}
 use Rattle.plain_machine.specs.Messages.{is_counter_access}
-use Rattle.plain_machine.specs.KernelPart.{gives}
+use Rattle.plain_machine.specs.KernelPart.{gives, breaks}
 use Rattle.kernel_sim.specs.UserMode.{user_of}
 use Rattle.kernel_sim.specs.declared.phase.PhaseKind.{PhaseKind}
-use Rattle.kernel_sim.specs.declared.phase.PhaseKind.TheVariants.{Boot, BootWait, BootTake, Leave, User, Save, Check, Scan, Fill, Wait, Take, Local, Restore, Speak, Closing}
+use Rattle.kernel_sim.specs.declared.phase.PhaseKind.TheVariants.{Boot, BootWait, Leave, User, Save, Check, Scan, Wait, Take, Local, Restore, Speak}
 use Rattle.kernel_sim.specs.declared.phase.Phase.{Phase}
 use Rattle.kernel_sim.specs.declared.phase.UserState.{UserState}
 use Rattle.kernel_sim.specs.declared.phase.Spoken.{Spoken}
@@ -33,10 +33,14 @@ UserAfter Leave User p old new u = u ≡ record p.user { pc = dword old.bus boot
 UserAfter User User p old new u = (state : ProgramState) × (user_step (user_of old) ≡ next state) × (u ≡ record p.user { pc = state.pc; regs = state.registers }) × (new.bus.user ≡ state.user)
 -- a0 becomes the request's first doubleword, and the pc goes on behind the call
 UserAfter Take Restore p old new u = u ≡ answered (slice_index p.request 0) p.user
--- a0 becomes what the kernel part of the call gives, and with brk the break does
-UserAfter Local Restore p old new u = (answer : ℕ) × (call_part p old.bus.user ≡ gives answer) × (u ≡ record (answered answer p.user) { brk = if slice_index p.user.regs 17 == 214 then answer else p.user.brk })
--- the break may be on its way
-UserAfter Local Local p old new u = u ≡ record p.user { brk = u.brk }
+-- a0 becomes the answer of the kernel part of the call, and with brk the break does
+UserAfter Local Restore p old new u =
+    (answer : ℕ)
+    × (((call_part p old.bus.user ≡ gives answer) × (u ≡ answered answer p.user))
+    ⊎ ((call_part p old.bus.user ≡ breaks answer) × (u ≡ record (answered answer p.user) { brk = answer })))
+-- with brk the break may become the answer before
+UserAfter Local Local p old new u =
+    (u ≡ p.user) ⊎ ((call_part p old.bus.user ≡ breaks u.brk) × (u ≡ record p.user { brk = u.brk }))
 UserAfter was now p old new u = u ≡ p.user
 
 -- the message of a trap that the program takes

@@ -1,5 +1,4 @@
 -- What it is that a phase holds.
-use Rattle.std.specs.Prelude.{ℕ}
 use Rattle.rv_hart.specs.HartStep.{System}
 use Rattle.kernel_sim.specs.declared.phase.Phase.{Phase}
 use Rattle.kernel_sim.specs.Rows.{InEvery, SetRow, Row}

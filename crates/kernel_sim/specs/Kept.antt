@@ -6,10 +6,10 @@ use Rattle.kernel_sim.specs.declared.phase.PhaseKind.TheVariants.{User}
 use Rattle.kernel_sim.specs.Phases.{dword}
 use Rattle.fe_base.specs.MemoryMap.{boot}
 
--- no user byte has changed in a step of the kernel
-abbrev pub UserKept : PhaseKind → BusState → BusState → Type 0
-UserKept User old new = ⊤
-UserKept _ old new = new.user ≡ old.user
+-- no user byte has changed in a step of the kernel, nor in one of the program that calls or traps
+abbrev pub UserKept : PhaseKind → PhaseKind → BusState → BusState → Type 0
+UserKept User User old new = ⊤
+UserKept was now old new = new.user ≡ old.user
 
 -- the boot block, entry and first break, has not changed
 abbrev pub BootBlockKept : BusState → BusState → Type 0

@@ -9,7 +9,9 @@ pub mod Kept
 pub mod Ready
 pub mod Stores
 pub mod Steps
+pub mod Traps
 pub mod Begins
 pub mod Mailbox
 pub mod Changes
+pub mod Progress
 pub mod Advance

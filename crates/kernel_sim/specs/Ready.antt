@@ -3,7 +3,6 @@ use Rattle.std.specs.Prelude.{◌≡◌, ℕ, ◌==◌, ◌||◌, Bool, true, fa
 use Rattle.rv_csr.specs.declared.privilege.Mode.{Mode}
 use Rattle.rv_csr.specs.declared.privilege.Mode.TheVariants as mode
 use Rattle.kernel_code.specs.Places.{pc_put, pc_closing, pc_put_test, pc_closing_test, pc_put_store, pc_closing_store}
-use Rattle.fe_base.specs.MemoryMap.{tohost}
 
 -- the places of the two loads of TOHOST, after which x6 holds it
 abbrev pub looks_at : ℕ → Bool

@@ -1,5 +1,5 @@
 -- What holds in each phase, row by row: of the hart, of the kernel area, and of the fields of the phase.
-use Rattle.std.specs.Prelude.{◌≡◌, ◌≢◌, ◌⊎◌, ℕ, ◌+◌, ◌*◌, ◌%◌, ◌^◌, ◌<◌, ◌≤◌, ◌==◌, ◌&&◌, ⊤, Bool, true, false, List, [], ◌∷◌, length, slice_index, slice_set}
+use Rattle.std.specs.Prelude.{◌≡◌, ◌≢◌, ◌⊎◌, ℕ, ◌+◌, ◌*◌, ◌%◌, ◌^◌, ◌<◌, ◌≤◌, ◌==◌, ◌&&◌, ⊤, true, false, List, [], ◌∷◌, length, slice_index, slice_set}
 use Rattle.fe_base.specs.MemoryMap.{tohost, fromhost, frame, boot, kernel_variables}
 use Rattle.guest_memory.specs.Bus.{BusState}
 use Rattle.rv_csr.specs.declared.privilege.Mode.{Mode}
@@ -8,9 +8,9 @@ use Rattle.rv_hart.specs.HartStep.{System}
 use Rattle.rv_hart.specs.declared.debug.Run.TheVariants.{Running}
 use Rattle.plain_machine.specs.UserStep.{is_user}
 use Rattle.plain_machine.specs.Messages.{is_counter_access}
-use Rattle.plain_machine.specs.KernelPart.{Part, gives, posts, scans, first_part, kernel_part, user_byte}
+use Rattle.plain_machine.specs.KernelPart.{Part, gives, breaks, posts, scans, first_part, kernel_part, greatest_path, user_byte}
 use Rattle.kernel_code.specs.Kernel.{IsImage}
-use Rattle.kernel_code.specs.Places.{pc_save, pc_idle}
+use Rattle.kernel_code.specs.Places.{pc_save}
 use Rattle.kernel_sim.specs.UserMode.{IsFenced}
 use Rattle.kernel_sim.specs.declared.phase.PhaseKind.{PhaseKind}
 use Rattle.kernel_sim.specs.declared.phase.PhaseKind.TheVariants.{Boot, BootWait, BootTake, Leave, User, Save, Check, Scan, Fill, Wait, Take, Local, Restore, Speak, Closing}
@@ -95,6 +95,10 @@ pub record InCall (p : Phase) (sys : System) : Type 0 where
 abbrev pub call_part : Phase → List ℕ → Part
 call_part p user = kernel_part p.user.regs user p.user.brk p.user.first_break
 
+-- the kernel answers the call itself, by the break where it is brk
+abbrev pub IsAnswer : Phase → List ℕ → ℕ → Type 0
+IsAnswer p user answer = (call_part p user ≡ gives answer) ⊎ (call_part p user ≡ breaks answer)
+
 -- byte k of the path that a1 points to is a user byte and no NUL
 abbrev pub IsPathByte : Phase → List ℕ → ℕ → Type 0
 IsPathByte p user k = (is_user ((slice_index p.user.regs 11 + k) % 2 ^ 64) ≡ true) × ((user_byte user ((slice_index p.user.regs 11 + k) % 2 ^ 64) == 0) ≡ false)
@@ -114,15 +118,19 @@ Row Leave p sys = ⊤
 Row User p sys = (sys.hart.pc ≡ p.user.pc) × (sys.hart.registers ≡ p.user.regs)
 Row Save p sys = (sys.hart.csrs.mepc ≡ p.user.pc) × IsSaved p sys × IsCallOrTold p sys
 Row Check p sys = (sys.hart.csrs.mepc ≡ p.user.pc) × InFrame p sys × IsCallOrTold p sys
--- the call has a path, of which so many bytes were looked at
-Row Scan p sys = InCall p sys × (first_part p.user.regs p.user.brk p.user.first_break ≡ scans) × ((k : ℕ) → k < p.scanned → IsPathByte p sys.bus.user k)
+-- the call has a path, of which so many bytes were passed, no more than a path has
+Row Scan p sys =
+    InCall p sys
+    × (first_part p.user.regs p.user.brk p.user.first_break ≡ scans)
+    × ((k : ℕ) → k < p.scanned → IsPathByte p sys.bus.user k)
+    × (p.scanned ≤ greatest_path)
 -- the call posts a request
 Row Fill p sys = InCall p sys × ((words : List ℕ) × (call_part p sys.bus.user ≡ posts words))
 -- the request was posted, and only its first doubleword may differ since
 Row Wait p sys = InCall p sys × ((user : List ℕ) × (number : ℕ) × (call_part p user ≡ posts (slice_set p.request 0 number)))
 Row Take p sys = InCall p sys
 -- the kernel answers the call itself
-Row Local p sys = InCall p sys × ((answer : ℕ) × (call_part p sys.bus.user ≡ gives answer))
+Row Local p sys = InCall p sys × ((answer : ℕ) × IsAnswer p sys.bus.user answer)
 -- the program's state has the answer in a0, and its pc stands behind the call, to which mepc moves on
 Row Restore p sys = (sys.hart.csrs.mcause ≡ 8) × ((sys.hart.csrs.mepc ≡ p.user.pc) ⊎ ((sys.hart.csrs.mepc + 4) % 2 ^ 64 ≡ p.user.pc)) × IsRestored p sys
 Row Speak p sys = IsTold p sys × (p.text.posted ≤ length (message p.text))

@@ -5,7 +5,7 @@ use Rattle.rv_decode.specs.Alignment.{instruction_alignment}
 use Rattle.rv_csr.specs.declared.privilege.Mode.TheVariants as mode
 use Rattle.rv_hart.specs.HartStep.{System}
 use Rattle.rv_hart.specs.declared.debug.Run.TheVariants.{Running}
-use Rattle.plain_machine.specs.Messages.{is_counter_access, trap_text, counter_text}
+use Rattle.plain_machine.specs.Messages.{is_counter_access}
 use Rattle.kernel_sim.specs.UserMode.{IsFenced}
 use Rattle.kernel_sim.specs.declared.phase.PhaseKind.{PhaseKind}
 use Rattle.kernel_sim.specs.declared.phase.PhaseKind.TheVariants.{Boot, BootWait, BootTake, Leave, User, Save, Check, Scan, Fill, Wait, Take, Local, Restore, Speak, Closing}

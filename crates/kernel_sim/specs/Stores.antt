@@ -1,5 +1,5 @@
 -- What a step of the kernel stores to TOHOST while it speaks and closes.
-use Rattle.std.specs.Prelude.{◌≡◌, ◌⊎◌, ℕ, ◌+◌, ◌*◌, ◌%◌, ◌^◌, ⊤, if◌then◌else◌, slice_index}
+use Rattle.std.specs.Prelude.{◌≡◌, ◌≢◌, ◌⊎◌, ℕ, ◌+◌, ◌*◌, ◌%◌, ◌^◌, ⊤, if◌then◌else◌, slice_index}
 use Rattle.rv_hart.specs.HartStep.{HartState}
 use Rattle.kernel_sim.specs.declared.phase.PhaseKind.{PhaseKind}
 use Rattle.kernel_sim.specs.declared.phase.PhaseKind.TheVariants.{Speak, Closing}
@@ -29,8 +29,14 @@ NoByte p tohost posted = (tohost ≡ p.tohost) × (posted ≡ p.text.posted)
 abbrev pub ExitWord : Phase → HartState → HartState → ℕ → Type 0
 ExitWord p old new tohost = (p.tohost ≡ 0) × (tohost ≡ exit_word p.text) × (old.pc ≡ pc_closing_store) × (new.pc ≡ pc_idle)
 
--- the hart stays at its last place
+-- TOHOST stays; the hart stays at its last place where it stands there, and does not come to it
+abbrev pub NoExit : Phase → HartState → HartState → ℕ → Type 0
+NoExit p old new tohost =
+    (tohost ≡ p.tohost) × (old.pc ≡ pc_idle → new.pc ≡ pc_idle) × (new.pc ≡ pc_idle → old.pc ≡ pc_idle)
+
+-- by kind: in Speak at most the next byte, and never the last place; in Closing at most the exit word, whose store alone leads to the last place
 abbrev pub Stores : PhaseKind → Phase → HartState → HartState → Phase → Type 0
-Stores Speak p old new q = NoByte p q.tohost q.text.posted ⊎ NextByte p q.tohost q.text.posted
-Stores Closing p old new q = ((q.tohost ≡ p.tohost) × (old.pc ≡ pc_idle → new.pc ≡ pc_idle)) ⊎ ExitWord p old new q.tohost
+Stores Speak p old new q =
+    (NoByte p q.tohost q.text.posted ⊎ NextByte p q.tohost q.text.posted) × (new.pc ≢ pc_idle)
+Stores Closing p old new q = NoExit p old new q.tohost ⊎ ExitWord p old new q.tohost
 Stores _ p old new q = ⊤

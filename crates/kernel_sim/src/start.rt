@@ -2,6 +2,7 @@
 ghost use Rattle.std.specs.Prelude.{◌≡◌};
 ghost use Rattle.guest_memory.specs.Bus.{IsBus};
 ghost use Rattle.rv_hart.specs.HartStep.{over};
+ghost use Rattle.kernel_sim.specs.Advance.{IsBegun};
 ghost use Rattle.kernel_sim.specs.Holds.{Holds};
 ghost use Rattle.kernel_sim.specs.Begins.{begun_hart, IsLoaded};
 
@@ -17,6 +18,7 @@ pub fn begin(hart: &Hart, bus: &Bus) -> Phase
     requires loaded { IsLoaded bus.now }
     requires bytes { IsBus bus.now }
     ensures kind { result.kind ≡ PhaseKind.Boot }
+    ensures begun { IsBegun result bus.now }
     ensures holds { Holds result (over bus.now hart.now) }
 {
     Phase {

@@ -8,9 +8,11 @@ ghost use Rattle.kernel_sim.specs.Phases.{next_phase};
 ghost use Rattle.kernel_sim.specs.Holds.{Holds};
 ghost use Rattle.kernel_sim.specs.Kept.{UserKept, BootBlockKept};
 ghost use Rattle.kernel_sim.specs.Steps.{follows};
+ghost use Rattle.kernel_sim.specs.Traps.{TrapAfter};
 ghost use Rattle.kernel_sim.specs.Changes.{UserAfter, TextAfter, ScannedAfter, StepsCounted, Waits, CodeKept};
 ghost use Rattle.kernel_sim.specs.Advance.{Posted};
 ghost use Rattle.kernel_sim.specs.Stores.{Stores};
+ghost use Rattle.kernel_sim.specs.Progress.{Progress};
 ghost use Rattle.kernel_sim.specs.Mailbox.{MailboxKept};
 
 use crate::phase::{Phase, PhaseKind, Spoken, UserState};
@@ -231,14 +233,20 @@ pub fn advance(hart: &mut Hart, bus: &mut Bus, phase: Phase) -> Phase
     ensures text { TextAfter phase.kind result.kind phase (over bus.old hart.old) result.text }
     ensures scanned { ScannedAfter phase.kind result.kind phase.scanned result.scanned }
 
+    // the trap that the kernel handles
+    ensures trap { TrapAfter phase.kind result.kind (over bus.old hart.old) (over bus.new hart.new) }
+
     // the mailbox
     ensures posted { Posted phase.kind result.kind phase (over bus.old hart.old) (over bus.new hart.new) }
     ensures stores { Stores phase.kind phase hart.old hart.new result }
     ensures mailbox { MailboxKept phase.kind result.kind bus.old bus.new }
     ensures waits { Waits phase result }
 
+    // how many steps are left
+    ensures progress { Progress phase hart.old result hart.new }
+
     // what stays
-    ensures user_bytes { UserKept phase.kind bus.old bus.new }
+    ensures user_bytes { UserKept phase.kind result.kind bus.old bus.new }
     ensures boot_block { BootBlockKept bus.old bus.new }
     ensures code { CodeKept bus.old bus.new }
     ensures counted { StepsCounted phase.kind hart.old hart.new }

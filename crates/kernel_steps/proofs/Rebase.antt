@@ -151,3 +151,16 @@ learn_cell code user env s sys i b v e p m = record {
 -- a fact becomes known
 pub learn_fact : (code : List Insn) (user : List ℕ) (env : ℕ → ℕ) (s : State) (sys : System) (f : Fact) → compared f.below (value env f.left) (value env f.right) ≡ f.truth → Describes code user env s sys → Describes code user env (record s { facts = f ∷ s.facts }) sys
 learn_fact code user env s sys f p m = record { run = m.run; mode = m.mode; at = m.at; regs = m.regs; csrs = m.csrs; memory = m.memory; facts = (p, m.facts); small = m.small }
+
+-- what the registers of a trap hold becomes known
+pub learn_trap : (code : List Insn) (user : List ℕ) (env : ℕ → ℕ) (s : State) (sys : System) (epc cause tval : Term) → Is env epc sys.hart.csrs.mepc → Is env cause sys.hart.csrs.mcause → Is env tval sys.hart.csrs.mtval → Describes code user env s sys → Describes code user env (record s { csrs = record s.csrs { epc = epc; cause = cause; tval = tval } }) sys
+learn_trap code user env s sys epc cause tval p q r m = record {
+  run = m.run;
+  mode = m.mode;
+  at = m.at;
+  regs = m.regs;
+  csrs = record { scratch = m.csrs.scratch; epc = p; cause = q; tval = r; tvec = m.csrs.tvec; mpp = m.csrs.mpp; pmp = m.csrs.pmp };
+  memory = m.memory;
+  facts = m.facts;
+  small = m.small;
+}

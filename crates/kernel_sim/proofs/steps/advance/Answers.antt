@@ -1,5 +1,6 @@
 use Rattle.rv_hart.specs.HartStep.{over}
 use Rattle.kernel_sim.proofs.AdvanceLaws.{made}
+use Rattle.kernel_sim.proofs.StepsLeft.{made_progress}
 use Rattle.kernel_sim.proofs.steps.advance.Goals as goal
 
 pub returns-clause-holds : goal.returns-clause-holds
@@ -16,6 +17,9 @@ returns-clause-text c = (made c.args.phase _ (over c.args.bus.now c.args.hart.no
 
 pub returns-clause-scanned : goal.returns-clause-scanned
 returns-clause-scanned c = (made c.args.phase _ (over c.args.bus.now c.args.hart.now) (over c.step.new.bus c.step.new.self) c.requires.holds (record { hart_fits = c.requires.hart_range; bus_fits = c.requires.bytes }) c.step.ensures.quiet c.phase_after.ensures).1.scanned
+
+pub returns-clause-trap : goal.returns-clause-trap
+returns-clause-trap c = (made c.args.phase _ (over c.args.bus.now c.args.hart.now) (over c.step.new.bus c.step.new.self) c.requires.holds (record { hart_fits = c.requires.hart_range; bus_fits = c.requires.bytes }) c.step.ensures.quiet c.phase_after.ensures).1.trap
 
 pub returns-clause-posted : goal.returns-clause-posted
 returns-clause-posted c = (made c.args.phase _ (over c.args.bus.now c.args.hart.now) (over c.step.new.bus c.step.new.self) c.requires.holds (record { hart_fits = c.requires.hart_range; bus_fits = c.requires.bytes }) c.step.ensures.quiet c.phase_after.ensures).1.posted
@@ -40,3 +44,6 @@ returns-clause-code c = (made c.args.phase _ (over c.args.bus.now c.args.hart.no
 
 pub returns-clause-counted : goal.returns-clause-counted
 returns-clause-counted c = (made c.args.phase _ (over c.args.bus.now c.args.hart.now) (over c.step.new.bus c.step.new.self) c.requires.holds (record { hart_fits = c.requires.hart_range; bus_fits = c.requires.bytes }) c.step.ensures.quiet c.phase_after.ensures).1.counted
+
+pub returns-clause-progress : goal.returns-clause-progress
+returns-clause-progress c = made_progress c.args.phase _ (over c.args.bus.now c.args.hart.now) (over c.step.new.bus c.step.new.self) c.requires.holds (record { hart_fits = c.requires.hart_range; bus_fits = c.requires.bytes }) c.step.ensures.quiet c.phase_after.ensures
