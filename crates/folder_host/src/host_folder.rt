@@ -12,8 +12,7 @@ use std::io;
 use std::io::{ErrorKind, Read, Seek, SeekFrom, Write};
 use std::rt::Files;
 
-/// The working directory of the runtime. Each open has a number of its own, which is given to no
-/// other open.
+/// The working directory of the runtime. Each open has a number of its own, which is given to no other open.
 #[derive(Drop)]
 pub struct HostFolder<R: Files + AllocGlobal + Drop> {
     rt: R,

@@ -1,13 +1,19 @@
 // Names as the system reads them, and what stands there.
+ghost use Rattle.std.specs.Prelude.{◌≡◌, false};
+ghost use Rattle.folder_tree.specs.Paths.{leads_out, path_text};
+ghost use Rattle.folder_host.specs.Names as spec;
+
 use folder_tree::{Path, PathKind};
 use std::fs::{Metadata, metadata};
 use std::io;
 use std::io::ErrorKind;
 use std::rt::Files;
 
-// The path as the system reads it: the root is the working directory itself. A path has no part
-// `..`, so the name leads to no place above that directory.
-pub fn name_of(path: &Path) -> &str {
+// The path as the system reads it: the root is the working directory itself.
+pub fn name_of(path: &Path) -> &str
+    ensures name { result.now ≡ spec.name_of (path_text path.now) }
+    ensures inside { leads_out result.now ≡ false }
+{
     match path.as_str() {
         "" => ".",
         name => name,

@@ -1,5 +1,5 @@
 use crate::HostFolder;
-use folder_tree::{Folder, FolderStop, PathKind, read_path};
+use folder_tree::{Folder, FolderStop, Path, PathKind, read_path};
 use std::fs;
 use std::os::unix::fs::symlink;
 use std::test::Fail;
@@ -42,7 +42,57 @@ fn the_working_directory_is_a_folder(rt: HostRuntime) -> Result<(), Fail> {
     Ok(())
 }
 
-// A link is followed; what is neither a file nor a directory is a fault, and isn't opened.
+// What doesn't suit a path or a number is refused, and changes nothing.
+#[test]
+fn what_does_not_suit_is_refused(rt: HostRuntime) -> Result<(), Fail> {
+    let mut folder = HostFolder::here(rt);
+    let directory = read_path(b"host_other")?;
+    let file = read_path(b"host_other/file")?;
+    let below = read_path(b"host_other/file/x")?;
+    assert_eq!(rt; folder.make_dir(&directory), Ok(()));
+    let number = folder.create(&file)?;
+    assert_eq!(rt; folder.kind(&file), Ok(PathKind::File));
+    assert_eq!(rt; folder.kind(&below), Ok(PathKind::UnderFile));
+    assert_eq!(rt; folder.create(&below), Err(FolderStop::Failed));
+    assert_eq!(rt; folder.make_dir(&file), Err(FolderStop::Failed));
+    assert_eq!(rt; folder.remove_dir(&file), Err(FolderStop::Failed));
+    assert_eq!(rt; folder.open_file(&directory), Err(FolderStop::Failed));
+    assert_eq!(rt; folder.remove(&directory), Err(FolderStop::Failed));
+    assert_eq!(rt; folder.remove_dir(&Path::root()), Err(FolderStop::Failed));
+    assert_eq!(rt; folder.write_at(number, 0, b""), Err(FolderStop::Failed));
+    assert_eq!(rt;
+        folder.write_at(number, 1 << 63, b"x"),
+        Err(FolderStop::Failed)
+    );
+    assert_eq!(rt; folder.size(number), Ok(0));
+    assert_eq!(rt; folder.release(number), Ok(()));
+    assert_eq!(rt; folder.release(number), Err(FolderStop::Failed));
+    assert_eq!(rt; folder.remove(&file), Ok(()));
+    assert_eq!(rt; folder.remove_dir(&directory), Ok(true));
+    Ok(())
+}
+
+// A link leads to what stands where it points to; its own name is what is removed.
+#[test]
+fn a_link_is_followed(rt: HostRuntime) -> Result<(), Fail> {
+    symlink(&rt, "host_target", "host_link")?;
+    let mut folder = HostFolder::here(rt);
+    let link = read_path(b"host_link")?;
+    let target = read_path(b"host_target")?;
+    assert_eq!(rt; folder.kind(&link), Ok(PathKind::Free));
+    assert_eq!(rt; folder.create(&link), Err(FolderStop::Failed));
+    let number = folder.create(&target)?;
+    assert_eq!(rt; folder.kind(&link), Ok(PathKind::File));
+    let other = folder.open_file(&link)?;
+    assert_eq!(rt; folder.write_at(other, 0, b"ab"), Ok(()));
+    assert_eq!(rt; folder.size(number), Ok(2));
+    assert_eq!(rt; folder.remove(&link), Ok(()));
+    assert_eq!(rt; folder.kind(&target), Ok(PathKind::File));
+    assert_eq!(rt; folder.remove(&target), Ok(()));
+    Ok(())
+}
+
+// What is neither a file nor a directory is a fault, and isn't opened.
 #[test]
 fn a_device_is_a_fault(rt: HostRuntime) -> Result<(), Fail> {
     symlink(&rt, "/dev/null", "host_device")?;
@@ -50,6 +100,7 @@ fn a_device_is_a_fault(rt: HostRuntime) -> Result<(), Fail> {
     let device = read_path(b"host_device")?;
     assert_eq!(rt; folder.kind(&device), Err(FolderStop::Failed));
     assert_eq!(rt; folder.open_file(&device), Err(FolderStop::Failed));
+    assert_eq!(rt; folder.remove(&device), Err(FolderStop::Failed));
     assert_eq!(rt;
         folder.kind(&read_path(b"host_device/x")?),
         Ok(PathKind::UnderFile)

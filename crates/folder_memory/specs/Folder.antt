@@ -1,5 +1,6 @@
 -- The folder in memory as a value, and what each call makes of it.
-use Rattle.std.specs.Prelude.{◌≡◌, ◌<◌, ◌^◌, ℕ, Bool, true, false, List, [], ◌∷◌, ◌+◌, Option, Some, None, IsSome, Result, Ok, Err, refl}
+use Rattle.std.specs.Prelude.{◌≡◌, ◌<◌, ◌^◌, ℕ, Bool, true, false, List, [], ◌∷◌, ◌+◌, Option, Some, None, IsSome}
+use Rattle.std.specs.Prelude.{Result, Ok, Err, refl}
 use Rattle.std.specs.Coded.{Coded, code_by, coded×, coded_ℕ, coded_list}
 use Rattle.fe_base.specs.Memory.{counted, is_listed}
 use Rattle.folder_tree.specs.Paths.{Parts}
@@ -56,11 +57,14 @@ after_call s row = after_by (is_listed s.calls s.failing) s row
 abbrev pub Called : {A : Type 0} → FolderState → FolderState → Option (After A) → Result A FolderStop → Type 0
 Called s now row (Ok answer) = (answer_of s row ≡ Ok answer) × (now ≡ after_call s row)
 Called s now row (Err Failed) = (answer_of s row ≡ Err Failed) × (now ≡ after_call s row)
-Called s now row (Err NoMemory) = IsSome row × (is_listed s.calls s.failing ≡ false) × (now ≡ record s { calls = counted s.calls; short = counted s.short })
+Called s now row (Err NoMemory) =
+    IsSome row × (is_listed s.calls s.failing ≡ false)
+    × (now ≡ record s { calls = counted s.calls; short = counted s.short })
 
 -- a state is stored as its tree and its numbers
 abbrev pub state_code : Coded FolderState
 state_code =
-    code_by (Tree × (ℕ × (List ℕ × (ℕ × ℕ)))) (coded× tree_code (coded× coded_ℕ (coded× (coded_list coded_ℕ) (coded× coded_ℕ coded_ℕ))))
+    code_by (Tree × (ℕ × (List ℕ × (ℕ × ℕ)))) (coded× tree_code
+    (coded× coded_ℕ (coded× (coded_list coded_ℕ) (coded× coded_ℕ coded_ℕ))))
     (λ s. (s.tree, (s.calls, (s.failing, (s.faults, s.short)))))
     (λ p. record { tree = p.0; calls = p.1.0; failing = p.1.1.0; faults = p.1.1.1.0; short = p.1.1.1.1 }) (λ _. refl)

@@ -1,9 +1,11 @@
 // A folder in memory, which tells its tree, and whose listed calls fail.
-ghost use Rattle.std.specs.Prelude.{◌≡◌, ◌≤◌, IfOk, IsTrue, OnErr, OnOk, Some, drop, length, take};
+ghost use Rattle.std.specs.Prelude.{◌≡◌, ◌≤◌, IfOk, IsTrue, None, OnErr, OnOk, Some, drop, length, take};
 ghost use Rattle.std.specs.Option.{option_copied};
 ghost use Rattle.fe_base.specs.Memory.{NoneFrom, counted, is_listed};
 ghost use Rattle.folder_tree.specs.Tree.{IsWellFormed, Tree, directory, empty_tree, file_of, kind_of};
-ghost use Rattle.folder_tree.specs.TreeOps.{create_row, is_free, kind_row, least_free, make_dir_row, named, open_row, read_row, release_row, remove_dir_row, remove_row, set_size_row, size_row, with_file, write_row};
+ghost use Rattle.folder_tree.specs.TreeOps.{create_row, is_free, kind_row, least_free, make_dir_row, named, open_row};
+ghost use Rattle.folder_tree.specs.TreeOps.{read_row, release_row, remove_dir_row, remove_row, set_size_row, size_row};
+ghost use Rattle.folder_tree.specs.TreeOps.{with_file, write_row};
 ghost use Rattle.folder_tree.specs.Answers.{Answers, HasCauses, StaysSteady, Suits, bytes_read};
 ghost use Rattle.folder_memory.specs.Folder.{Called, HasCounts, refused};
 
@@ -12,8 +14,8 @@ use folder_tree::{Folder, FolderStop, Path, PathKind, is_writable};
 use std::alloc::{AllocError, Global};
 use std::marker::Model;
 
-/// A folder in memory. Each call of a listed number fails; calls are counted from 0. Only
-/// `open_file`, `create`, `write_at`, `set_size` and `make_dir` may want memory.
+/// A folder in memory. Each call of a listed number fails; calls are counted from 0. Only `open_file`, `create`,
+/// `write_at`, `set_size` and `make_dir` may want memory.
 #[derive(Drop)]
 pub struct MemoryFolder {
     tree: MemoryTree,
@@ -32,7 +34,13 @@ impl Model for MemoryFolder {
 
     ghost use Rattle.std.specs.Prelude.{◌<◌, ◌^◌};
 
-    ghost view = { λ f. record { tree = f.tree; calls = f.calls; failing = f.failing.items; faults = f.faults; short = f.short } };
+    ghost view = { λ f. record {
+      tree = f.tree;
+      calls = f.calls;
+      failing = f.failing.items;
+      faults = f.faults;
+      short = f.short;
+    } };
 
     ghost invariant = { λ f. (f.calls < 2 ^ 64) × (f.faults < 2 ^ 64) × (f.short < 2 ^ 64) };
 }
@@ -40,7 +48,13 @@ impl Model for MemoryFolder {
 impl MemoryFolder {
     /// A folder with nothing in its root, on which no call was made.
     pub fn new(alloc: Global, failing: &[u64]) -> Result<MemoryFolder, AllocError>
-        ensures empty { IfOk result (λ f. f ≡ record { tree = empty_tree; calls = 0; failing = failing.now; faults = 0; short = 0 }) }
+        ensures empty { IfOk result (λ f. f ≡ record {
+          tree = empty_tree;
+          calls = 0;
+          failing = failing.now;
+          faults = 0;
+          short = 0;
+        }) }
         ensures well_formed { IfOk result (λ f. IsWellFormed f.tree) }
     {
         Ok(MemoryFolder {
@@ -62,7 +76,9 @@ impl MemoryFolder {
     /// Adds a file that isn't open. This is none of the counted calls.
     pub fn put_file(&mut self, path: &Path, bytes: &[u8]) -> Result<(), AllocError>
         requires { IsTrue (is_free (kind_of self.old.tree path.now)) }
-        ensures ok { OnOk result (self.new ≡ record self.old { tree = with_file self.old.tree path.now (least_free self.old.tree.bytes) bytes.now }) }
+        ensures ok { OnOk result (self.new ≡ record self.old {
+          tree = with_file self.old.tree path.now (least_free self.old.tree.bytes) bytes.now;
+        }) }
         ensures err { OnErr result (self.new ≡ self.old) }
         ensures well_formed { IsWellFormed self.new.tree }
     {
@@ -204,7 +220,8 @@ impl MemoryFolder {
 
     fn try_read(&mut self, number: u64, at: u64, into: &mut [u8]) -> Result<usize, FolderStop>
         ensures bound { IfOk result (λ n. n ≤ length into.new) }
-        ensures called { Called self.old self.new (read_row number at (length into.old) self.old.tree) (bytes_read result into.new) }
+        ensures called { Called self.old self.new (read_row number at (length into.old) self.old.tree)
+            (bytes_read result into.new) }
         ensures counts { HasCounts self.old }
         ensures behind { IfOk result (λ n. drop n into.new ≡ drop n into.old) }
         ensures no_want { self.new.short ≡ self.old.short }
@@ -300,6 +317,7 @@ impl Folder for MemoryFolder {
 
     fn kind(&mut self, path: &Path) -> Result<PathKind, FolderStop>
         ensures tree { Answers (Some self.old.tree) (Some self.new.tree) (kind_row path.now) result }
+        ensures untold { Some self.old.tree ≡ None → Some self.new.tree ≡ None }
         ensures cause { HasCauses self.old.faults self.new.faults self.old.short self.new.short result }
         ensures steady { NoneFrom self.old.calls self.old.failing → Suits (Some self.old.tree) (kind_row path.now)
             → StaysSteady self.old.faults self.new.faults result (NoneFrom self.new.calls self.new.failing) }
@@ -311,6 +329,7 @@ impl Folder for MemoryFolder {
 
     fn open_file(&mut self, path: &Path) -> Result<u64, FolderStop>
         ensures tree { Answers (Some self.old.tree) (Some self.new.tree) (open_row path.now) result }
+        ensures untold { Some self.old.tree ≡ None → Some self.new.tree ≡ None }
         ensures cause { HasCauses self.old.faults self.new.faults self.old.short self.new.short result }
         ensures steady { NoneFrom self.old.calls self.old.failing → Suits (Some self.old.tree) (open_row path.now)
             → StaysSteady self.old.faults self.new.faults result (NoneFrom self.new.calls self.new.failing) }
@@ -321,6 +340,7 @@ impl Folder for MemoryFolder {
 
     fn create(&mut self, path: &Path) -> Result<u64, FolderStop>
         ensures tree { Answers (Some self.old.tree) (Some self.new.tree) (create_row path.now) result }
+        ensures untold { Some self.old.tree ≡ None → Some self.new.tree ≡ None }
         ensures cause { HasCauses self.old.faults self.new.faults self.old.short self.new.short result }
         ensures steady { NoneFrom self.old.calls self.old.failing → Suits (Some self.old.tree) (create_row path.now)
             → StaysSteady self.old.faults self.new.faults result (NoneFrom self.new.calls self.new.failing) }
@@ -331,6 +351,7 @@ impl Folder for MemoryFolder {
 
     fn release(&mut self, number: u64) -> Result<(), FolderStop>
         ensures tree { Answers (Some self.old.tree) (Some self.new.tree) (release_row number) result }
+        ensures untold { Some self.old.tree ≡ None → Some self.new.tree ≡ None }
         ensures cause { HasCauses self.old.faults self.new.faults self.old.short self.new.short result }
         ensures steady { NoneFrom self.old.calls self.old.failing → Suits (Some self.old.tree) (release_row number)
             → StaysSteady self.old.faults self.new.faults result (NoneFrom self.new.calls self.new.failing) }
@@ -342,6 +363,7 @@ impl Folder for MemoryFolder {
 
     fn size(&mut self, number: u64) -> Result<u64, FolderStop>
         ensures tree { Answers (Some self.old.tree) (Some self.new.tree) (size_row number) result }
+        ensures untold { Some self.old.tree ≡ None → Some self.new.tree ≡ None }
         ensures cause { HasCauses self.old.faults self.new.faults self.old.short self.new.short result }
         ensures steady { NoneFrom self.old.calls self.old.failing → Suits (Some self.old.tree) (size_row number)
             → StaysSteady self.old.faults self.new.faults result (NoneFrom self.new.calls self.new.failing) }
@@ -353,12 +375,17 @@ impl Folder for MemoryFolder {
 
     fn read_at(&mut self, number: u64, at: u64, into: &mut [u8]) -> Result<usize, FolderStop>
         ensures bound { IfOk result (λ n. n ≤ length into.new) }
-        ensures tree { Answers (Some self.old.tree) (Some self.new.tree) (read_row number at (length into.old)) (bytes_read result into.new) }
-        ensures behind { (t : Tree) → Some self.old.tree ≡ Some t → IfOk result (λ n. drop n into.new ≡ drop n into.old) }
+        ensures tree { Answers (Some self.old.tree) (Some self.new.tree) (read_row number at (length into.old))
+            (bytes_read result into.new) }
+        ensures untold { Some self.old.tree ≡ None → Some self.new.tree ≡ None }
+        ensures behind { (t : Tree) → Some self.old.tree ≡ Some t
+            → IfOk result (λ n. drop n into.new ≡ drop n into.old) }
         ensures cause { HasCauses self.old.faults self.new.faults self.old.short self.new.short result }
-        ensures steady { NoneFrom self.old.calls self.old.failing → Suits (Some self.old.tree) (read_row number at (length into.old))
+        ensures steady { NoneFrom self.old.calls self.old.failing
+            → Suits (Some self.old.tree) (read_row number at (length into.old))
             → StaysSteady self.old.faults self.new.faults result (NoneFrom self.new.calls self.new.failing) }
-        ensures called { Called self.old self.new (read_row number at (length into.old) self.old.tree) (bytes_read result into.new) }
+        ensures called { Called self.old self.new (read_row number at (length into.old) self.old.tree)
+            (bytes_read result into.new) }
         ensures no_want { self.new.short ≡ self.old.short }
     {
         self.try_read(number, at, into)
@@ -366,8 +393,10 @@ impl Folder for MemoryFolder {
 
     fn write_at(&mut self, number: u64, at: u64, bytes: &[u8]) -> Result<(), FolderStop>
         ensures tree { Answers (Some self.old.tree) (Some self.new.tree) (write_row number at bytes.now) result }
+        ensures untold { Some self.old.tree ≡ None → Some self.new.tree ≡ None }
         ensures cause { HasCauses self.old.faults self.new.faults self.old.short self.new.short result }
-        ensures steady { NoneFrom self.old.calls self.old.failing → Suits (Some self.old.tree) (write_row number at bytes.now)
+        ensures steady { NoneFrom self.old.calls self.old.failing
+            → Suits (Some self.old.tree) (write_row number at bytes.now)
             → StaysSteady self.old.faults self.new.faults result (NoneFrom self.new.calls self.new.failing) }
         ensures called { Called self.old self.new (write_row number at bytes.now self.old.tree) result }
     {
@@ -376,8 +405,10 @@ impl Folder for MemoryFolder {
 
     fn set_size(&mut self, number: u64, size: u64) -> Result<(), FolderStop>
         ensures tree { Answers (Some self.old.tree) (Some self.new.tree) (set_size_row number size) result }
+        ensures untold { Some self.old.tree ≡ None → Some self.new.tree ≡ None }
         ensures cause { HasCauses self.old.faults self.new.faults self.old.short self.new.short result }
-        ensures steady { NoneFrom self.old.calls self.old.failing → Suits (Some self.old.tree) (set_size_row number size)
+        ensures steady { NoneFrom self.old.calls self.old.failing
+            → Suits (Some self.old.tree) (set_size_row number size)
             → StaysSteady self.old.faults self.new.faults result (NoneFrom self.new.calls self.new.failing) }
         ensures called { Called self.old self.new (set_size_row number size self.old.tree) result }
     {
@@ -386,6 +417,7 @@ impl Folder for MemoryFolder {
 
     fn remove(&mut self, path: &Path) -> Result<(), FolderStop>
         ensures tree { Answers (Some self.old.tree) (Some self.new.tree) (remove_row path.now) result }
+        ensures untold { Some self.old.tree ≡ None → Some self.new.tree ≡ None }
         ensures cause { HasCauses self.old.faults self.new.faults self.old.short self.new.short result }
         ensures steady { NoneFrom self.old.calls self.old.failing → Suits (Some self.old.tree) (remove_row path.now)
             → StaysSteady self.old.faults self.new.faults result (NoneFrom self.new.calls self.new.failing) }
@@ -397,6 +429,7 @@ impl Folder for MemoryFolder {
 
     fn make_dir(&mut self, path: &Path) -> Result<(), FolderStop>
         ensures tree { Answers (Some self.old.tree) (Some self.new.tree) (make_dir_row path.now) result }
+        ensures untold { Some self.old.tree ≡ None → Some self.new.tree ≡ None }
         ensures cause { HasCauses self.old.faults self.new.faults self.old.short self.new.short result }
         ensures steady { NoneFrom self.old.calls self.old.failing → Suits (Some self.old.tree) (make_dir_row path.now)
             → StaysSteady self.old.faults self.new.faults result (NoneFrom self.new.calls self.new.failing) }
@@ -407,6 +440,7 @@ impl Folder for MemoryFolder {
 
     fn remove_dir(&mut self, path: &Path) -> Result<bool, FolderStop>
         ensures tree { Answers (Some self.old.tree) (Some self.new.tree) (remove_dir_row path.now) result }
+        ensures untold { Some self.old.tree ≡ None → Some self.new.tree ≡ None }
         ensures cause { HasCauses self.old.faults self.new.faults self.old.short self.new.short result }
         ensures steady { NoneFrom self.old.calls self.old.failing → Suits (Some self.old.tree) (remove_dir_row path.now)
             → StaysSteady self.old.faults self.new.faults result (NoneFrom self.new.calls self.new.failing) }

@@ -6,7 +6,8 @@ ghost use Rattle.folder_tree.specs.Paths.{parts_of};
 ghost use Rattle.folder_tree.specs.Tree.{HasParents, kind_of, number_at};
 ghost use Rattle.folder_tree.specs.TreeOps.{is_filled, is_named};
 ghost use Rattle.folder_tree.specs.WalkLaws.{kind_standing, kind_under, number_standing, standing};
-ghost use Rattle.folder_memory.specs.Names.{IsLast, IsPathText, entry_of, is_number, names_tree, stands_below, starts_below};
+ghost use Rattle.folder_memory.specs.Names.{IsLast, IsPathText, entry_of, is_number, names_tree, stands_below};
+ghost use Rattle.folder_memory.specs.Names.{starts_below};
 
 use folder_tree::{Path, PathKind};
 use std::alloc::{AllocError, Global};

@@ -1,7 +1,10 @@
 // The tree of a memory folder.
-ghost use Rattle.std.specs.Prelude.{◌≡◌, ◌<◌, ◌^◌, ◌+◌, ◌==◌, ◌&&◌, not, IfOk, IsTrue, OnErr, OnOk, length, nat_lt, true, Some, unwrap_or};
-ghost use Rattle.folder_tree.specs.Tree.{IsWellFormed, bytes_of, directory, empty_tree, file_of, kind_of, number_at, opens_of};
-ghost use Rattle.folder_tree.specs.TreeOps.{After, created, dropped, emptied, holding, is_free, is_named, least_free, named, opened, released, sized, with_file, without, written};
+ghost use Rattle.std.specs.Prelude.{◌≡◌, ◌<◌, ◌^◌, ◌+◌, ◌==◌, ◌&&◌, not, IfOk, IsTrue, OnErr, OnOk, length, nat_lt};
+ghost use Rattle.std.specs.Prelude.{true, Some, unwrap_or};
+ghost use Rattle.folder_tree.specs.Tree.{IsWellFormed, bytes_of, directory, empty_tree, file_of, kind_of, number_at};
+ghost use Rattle.folder_tree.specs.Tree.{opens_of};
+ghost use Rattle.folder_tree.specs.TreeOps.{After, created, dropped, emptied, holding, is_free, is_named, least_free};
+ghost use Rattle.folder_tree.specs.TreeOps.{named, opened, released, sized, with_file, without, written};
 ghost use Rattle.folder_memory.specs.Names.{names_tree};
 ghost use Rattle.folder_memory.specs.Folder.{is_inner_directory};
 ghost use Rattle.std.specs.FinMap as map;
@@ -103,7 +106,8 @@ impl MemoryTree {
     pub fn write(&mut self, number: u64, at: u64, bytes: &[u8]) -> Result<(), AllocError>
         requires held { 0 < opens_of self.old number }
         requires end { at + length bytes.now < 2 ^ 63 }
-        ensures ok { OnOk result (self.new ≡ holding self.old number (written at bytes.now (bytes_of self.old number))) }
+        ensures ok { OnOk result (self.new ≡ holding self.old number
+            (written at bytes.now (bytes_of self.old number))) }
         ensures err { OnErr result (self.new ≡ self.old) }
     {
         self.contents.write(number, at, bytes)?;

@@ -1,5 +1,6 @@
 -- `least_free` is the least number that has no bytes, and the only one.
-use Rattle.std.specs.Prelude.{◌≡◌, ◌<◌, ◌≤◌, ◌+◌, ℕ, zero, suc, Bool, true, false, if◌then◌else◌, List, [], ◌∷◌, Option, Some, None, IsSome, is_some, sum}
+use Rattle.std.specs.Prelude.{◌≡◌, ◌<◌, ◌≤◌, ◌+◌, ℕ, zero, suc, Bool, true, false, if◌then◌else◌, List, [], ◌∷◌, Option}
+use Rattle.std.specs.Prelude.{Some, None, IsSome, is_some, sum}
 use Rattle.std.proofs.Common.{ap, sym, ◌∙◌, refl, subst, arith, ◌⊎◌, inl, inr}
 use Rattle.std.specs.FinMap as map
 use Rattle.std.specs.FinMap.{contains_key-keys}
@@ -24,31 +25,42 @@ none_is : {X : Type 0} (o : Option X) → o ≡ None → IsSome o → ⊥
 none_is None e some = cc
 none_is (Some x) e some = cc
 
-step-has : (bytes : map.FinMap nat_cmp (List ℕ)) (more n : ℕ) → is_some (map.get bytes n) ≡ true → free_from bytes (suc more) n ≡ free_from bytes more (n + 1)
+step-has : (bytes : map.FinMap nat_cmp (List ℕ)) (more n : ℕ) → is_some (map.get bytes n) ≡ true
+    → free_from bytes (suc more) n ≡ free_from bytes more (n + 1)
 step-has bytes more n has = ap (λ b. if b then free_from bytes more (n + 1) else n) has
 
-step-none : (bytes : map.FinMap nat_cmp (List ℕ)) (more n : ℕ) → is_some (map.get bytes n) ≡ false → free_from bytes (suc more) n ≡ n
+step-none : (bytes : map.FinMap nat_cmp (List ℕ)) (more n : ℕ) → is_some (map.get bytes n) ≡ false
+    → free_from bytes (suc more) n ≡ n
 step-none bytes more n none = ap (λ b. if b then free_from bytes more (n + 1) else n) none
 
-free_from-least : (bytes : map.FinMap nat_cmp (List ℕ)) (more n k : ℕ) → n ≤ k → k < free_from bytes more n → IsSome (map.get bytes k)
+free_from-least : (bytes : map.FinMap nat_cmp (List ℕ)) (more n k : ℕ) → n ≤ k → k < free_from bytes more n
+    → IsSome (map.get bytes k)
 free_from-least bytes zero n k from below = absurd (omega arith)
 free_from-least bytes (suc more) n k from below =
     elim (cases_Bool (is_some (map.get bytes n))) as (λ _. IsSome (map.get bytes k)) [
       | inl has ↦ elim (cases_eq n k) as (λ _. IsSome (map.get bytes k)) [
         | inl same ↦ let P : ℕ → Type 0 = λ j. IsSome (map.get bytes j) in subst P same has
-        | inr other ↦ free_from-least bytes more (n + 1) k (grind (arith, other)) (let step : free_from bytes (suc more) n ≡ free_from bytes more (n + 1) = step-has bytes more n has in omega arith)
+        | inr other ↦ free_from-least bytes more (n + 1) k (grind (arith, other))
+            (let step : free_from bytes (suc more) n ≡ free_from bytes more (n + 1) = step-has bytes more n has in
+            omega arith)
       ]
       | inr none ↦ absurd (let step : free_from bytes (suc more) n ≡ n = step-none bytes more n none in omega arith)
     ]
 
-free_from-end : (bytes : map.FinMap nat_cmp (List ℕ)) (more n : ℕ) → (map.get bytes (free_from bytes more n) ≡ None) ⊎ (free_from bytes more n ≡ n + more)
+free_from-end : (bytes : map.FinMap nat_cmp (List ℕ)) (more n : ℕ)
+    → (map.get bytes (free_from bytes more n) ≡ None) ⊎ (free_from bytes more n ≡ n + more)
 free_from-end bytes zero n = inr (let same : n ≡ n + 0 = omega arith in same)
 free_from-end bytes (suc more) n =
-    elim (cases_Bool (is_some (map.get bytes n))) as (λ _. (map.get bytes (free_from bytes (suc more) n) ≡ None) ⊎ (free_from bytes (suc more) n ≡ n + suc more)) [
-      | inl has ↦ elim (free_from-end bytes more (n + 1)) as (λ _. (map.get bytes (free_from bytes (suc more) n) ≡ None) ⊎ (free_from bytes (suc more) n ≡ n + suc more)) [
-        | inl free ↦ inl (ap (map.get bytes) (step-has bytes more n has) ∙ free)
-        | inr end ↦ inr (step-has bytes more n has ∙ end ∙ (let same : (n + 1) + more ≡ n + suc more = omega arith in same))
-      ]
+    elim (cases_Bool (is_some (map.get bytes n)))
+    as (λ _. (map.get bytes (free_from bytes (suc more) n) ≡ None)
+    ⊎ (free_from bytes (suc more) n ≡ n + suc more)) [
+      | inl has ↦ elim (free_from-end bytes more (n + 1))
+          as (λ _. (map.get bytes (free_from bytes (suc more) n) ≡ None)
+          ⊎ (free_from bytes (suc more) n ≡ n + suc more)) [
+            | inl free ↦ inl (ap (map.get bytes) (step-has bytes more n has) ∙ free)
+            | inr end ↦ inr (step-has bytes more n has ∙ end
+                ∙ (let same : (n + 1) + more ≡ n + suc more = omega arith in same))
+          ]
       | inr none ↦ inl (ap (map.get bytes) (step-none bytes more n none) ∙ nothing_of (map.get bytes n) none)
     ]
 
@@ -81,13 +93,16 @@ unfolding least_free
 least_free-IsFreeNumber t =
     let most : ℕ = sum (map.keys t.bytes) in
     record {
-      free = elim (free_from-end t.bytes (most + 1) 0) as (λ _. map.get t.bytes (free_from t.bytes (most + 1) 0) ≡ None) [
-        | inl free ↦ free
-        | inr end ↦ elim (cases_Bool (is_some (map.get t.bytes (free_from t.bytes (most + 1) 0)))) as (λ _. map.get t.bytes (free_from t.bytes (most + 1) 0) ≡ None) [
-          | inl has ↦ absurd (let below : free_from t.bytes (most + 1) 0 ≤ most = key-sum t.bytes (free_from t.bytes (most + 1) 0) has in omega arith)
-          | inr none ↦ nothing_of (map.get t.bytes (free_from t.bytes (most + 1) 0)) none
-        ]
-      ];
+      free = elim (free_from-end t.bytes (most + 1) 0)
+          as (λ _. map.get t.bytes (free_from t.bytes (most + 1) 0) ≡ None) [
+            | inl free ↦ free
+            | inr end ↦ elim (cases_Bool (is_some (map.get t.bytes (free_from t.bytes (most + 1) 0))))
+                as (λ _. map.get t.bytes (free_from t.bytes (most + 1) 0) ≡ None) [
+                  | inl has ↦ absurd (let below : free_from t.bytes (most + 1) 0 ≤ most = key-sum t.bytes
+                      (free_from t.bytes (most + 1) 0) has in omega arith)
+                  | inr none ↦ nothing_of (map.get t.bytes (free_from t.bytes (most + 1) 0)) none
+                ]
+          ];
       least = λ below within. free_from-least t.bytes (most + 1) 0 below (omega arith) within;
     }
 

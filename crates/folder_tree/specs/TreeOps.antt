@@ -1,6 +1,7 @@
 -- The operations on a tree, one row each: `None` where the call doesn't suit the tree, else the answer and the tree
 -- after it.
-use Rattle.std.specs.Prelude.{◌^◌, ℕ, zero, suc, Bool, true, false, List, [], ◌∷◌, ◌++◌, length, take, drop, replicate, sum, ◌+◌, ◌-◌, Option, Some, None, is_some, ◌==◌, ◌&&◌, not, nat_lt, if◌then◌else◌}
+use Rattle.std.specs.Prelude.{◌^◌, ℕ, zero, suc, Bool, true, false, List, [], ◌∷◌, ◌++◌, length, take, drop, replicate}
+use Rattle.std.specs.Prelude.{sum, ◌+◌, ◌-◌, Option, Some, None, is_some, ◌==◌, ◌&&◌, not, nat_lt, if◌then◌else◌}
 use Rattle.std.specs.List.{list_any}
 use Rattle.std.specs.FinMap as map
 use Rattle.std.specs.Ordering.{nat_cmp, eq_by_cmp}
@@ -46,7 +47,8 @@ size_row number = if_open number (λ t. Some (record { answer = length (bytes_of
 
 -- the bytes from a place on, at most so many
 abbrev pub read_row : ℕ → ℕ → ℕ → Row (List ℕ)
-read_row number at count = if_open number (λ t. Some (record { answer = take count (drop at (bytes_of t number)); tree = t }))
+read_row number at count =
+    if_open number (λ t. Some (record { answer = take count (drop at (bytes_of t number)); tree = t }))
 
 -- one open less of a number that is open so often; no count of 0 is kept
 abbrev pub fewer_opens : map.FinMap nat_cmp ℕ → ℕ → ℕ → map.FinMap nat_cmp ℕ
@@ -80,7 +82,8 @@ named t path entry = record t { names = map.insert t.names path entry }
 
 -- the tree with a new file of this number at a path, which holds these bytes and isn't open
 abbrev pub with_file : Tree → Parts → ℕ → List ℕ → Tree
-with_file t path number bytes = record t { names = map.insert t.names path (stored number); bytes = map.insert t.bytes number bytes }
+with_file t path number bytes =
+    record t { names = map.insert t.names path (stored number); bytes = map.insert t.bytes number bytes }
 
 -- the first number from this one on that has no bytes, looked for so often
 abbrev pub free_from : map.FinMap nat_cmp (List ℕ) → ℕ → ℕ → ℕ
@@ -142,7 +145,8 @@ is_writable at new = nat_lt 0 (length new) && nat_lt (at + length new) (2 ^ 63)
 -- to write some bytes to an open number, ending below 2^63
 abbrev pub write_row : ℕ → ℕ → List ℕ → Row Unit
 write_row number at new =
-    if_open number (λ t. if is_writable at new then Some (record { answer = tt; tree = holding t number (written at new (bytes_of t number)) }) else None)
+    if_open number (λ t. if is_writable at new then Some
+    (record { answer = tt; tree = holding t number (written at new (bytes_of t number)) }) else None)
 
 -- to cut an open number or fill it with zeros
 abbrev pub set_size_row : ℕ → ℕ → Row Unit
@@ -184,7 +188,8 @@ is_filled t path = list_any (is_below path) (map.keys t.names)
 
 -- a directory in which a name stands stays, and the answer is false; an empty one goes
 abbrev pub emptied : Tree → Parts → After Bool
-emptied t path = if is_filled t path then record { answer = false; tree = t } else record { answer = true; tree = without t path }
+emptied t path = if is_filled t path then record { answer = false; tree = t }
+    else record { answer = true; tree = without t path }
 
 -- to remove a directory that is not the root
 abbrev pub remove_dir_row : Parts → Row Bool

@@ -3,8 +3,12 @@ use Rattle.folder_memory.proofs.CallLemmas.{Called-Answers, Called-StaysSteady}
 use Rattle.folder_memory.proofs.folder.MemoryFolderFolder.set_size.Goals as goal
 
 pub returns-clause-tree : goal.returns-clause-tree
-returns-clause-tree c = Called-Answers (set_size_row c.args.number c.args.size) c.args.self.now c.try_set_size.new.self c.try_set_size.result c.try_set_size.ensures.called
+returns-clause-tree c =
+    Called-Answers (set_size_row c.args.number c.args.size) c.args.self.now c.try_set_size.new.self
+    c.try_set_size.result c.try_set_size.ensures.called
 
 pub returns-clause-steady : goal.returns-clause-steady
 returns-clause-steady c =
-    Called-StaysSteady c.args.self.now c.try_set_size.new.self (set_size_row c.args.number c.args.size c.args.self.now.tree) c.try_set_size.result c.try_set_size.result c.try_set_size.ensures.counts (λ e. e) c.try_set_size.ensures.called
+    Called-StaysSteady c.args.self.now c.try_set_size.new.self
+    (set_size_row c.args.number c.args.size c.args.self.now.tree) c.try_set_size.result c.try_set_size.result
+    c.try_set_size.ensures.counts (λ e. e) c.try_set_size.ensures.called

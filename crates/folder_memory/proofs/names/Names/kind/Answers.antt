@@ -8,5 +8,6 @@ use Rattle.folder_memory.proofs.names.Names.kind.Goals as goal
 pub returns : goal.returns
 returns c =
     c.kind.ensures
-    ∙ found-kind (names_tree c.args.self.now) (parts_of c.as_str-text.result.now) c.standing.result c.in-Some.stood c.requires c.standing.ensures c.in-Some.is
+    ∙ found-kind (names_tree c.args.self.now) (parts_of c.as_str-text.result.now) c.standing.result c.in-Some.stood
+    c.requires c.standing.ensures c.in-Some.is
     ∙ ap (kind_of (names_tree c.args.self.now)) c.as_str-text.ensures.parts

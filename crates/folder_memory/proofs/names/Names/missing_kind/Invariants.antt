@@ -12,7 +12,8 @@ abbrev pub invariant-loop-stood : goal.invariant-loop-stood
 invariant-loop-stood l = record {
   utf8 : shadow (Utf8 l.above);
   path : IsPathText l.above;
-  same : kind_of (names_tree l.self) (parts_of l.text) ≡ kind_under l.kind (kind_of (names_tree l.self) (parts_of l.above));
+  same : kind_of (names_tree l.self) (parts_of l.text)
+      ≡ kind_under l.kind (kind_of (names_tree l.self) (parts_of l.above));
 }
 
 abbrev pub decreases-loop-stood : goal.decreases-loop-stood
