@@ -1,0 +1,4 @@
+pub mod OpenFlags
+pub mod StatRecord
+pub mod PathRules
+pub mod Request
