@@ -21,7 +21,7 @@ use Rattle.kernel_sim.proofs.SpokenLaws.{stores_law}
 use Rattle.kernel_sim.proofs.CauseLaws.{trap-after}
 use Rattle.kernel_sim.proofs.KeptLaws.{user_kept_law, block_kept_law}
 use Rattle.kernel_sim.proofs.HostLaws.{host_law}
-use Rattle.kernel_sim.proofs.ChangeLaws.{user-after, text-after, scanned-after, waits-kind, code-kept, steps-counted}
+use Rattle.kernel_sim.proofs.ChangeLaws.{user-changes, text-changes, scanned-changes, waits-kind, code-kept, steps-counted}
 
 posted-told : (was now : PhaseKind) (p : Phase) (old new : System) → Told was now p old new → Posted was now p old new
 posted-told Boot BootWait p old new t = (t.0, t.1)
@@ -47,9 +47,9 @@ steps_advance p sys h s =
       holds-known q (hart_step sys) (advance_law p sys h.known s.bus_fits s.hart_fits n.bus_fits n.hart_fits),
       record {
         order = t.0;
-        user = user-after p.kind q.kind p sys (hart_step sys) t.0 t.1 h.every.request_is m (local-break-of p sys fit p.kind place h.set);
-        text = text-after p.kind q.kind p sys (hart_step sys) t.0 t.1;
-        scanned = scanned-after p.kind q.kind p sys (hart_step sys).hart.pc t.0 place;
+        user = user-changes p.kind q.kind p sys (hart_step sys) t.0 t.1 h.every.request_is m (local-break-of p sys fit p.kind place h.set);
+        text = text-changes p.kind q.kind p sys (hart_step sys) t.0 t.1;
+        scanned = scanned-changes p.kind q.kind p sys (hart_step sys).hart.pc t.0 place;
         posted = posted-told p.kind q.kind p sys (hart_step sys) t.1;
         stores = stores_law p q sys (hart_step sys) h.known s.bus_fits s.hart_fits refl n.bus_fits n.hart_fits refl;
         mailbox = m;

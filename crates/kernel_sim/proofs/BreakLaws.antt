@@ -33,7 +33,7 @@ use Rattle.kernel_sim.specs.declared.phase.PhaseKind.{PhaseKind}
 use Rattle.kernel_sim.specs.declared.phase.PhaseKind.TheVariants.{Boot, BootWait, BootTake, Leave, User, Save, Check, Scan, Fill, Wait, Take, Local, Restore, Speak, Closing}
 use Rattle.kernel_sim.specs.declared.phase.Phase.{Phase}
 use Rattle.kernel_sim.specs.declared.phase.UserState.{UserState}
-use Rattle.kernel_sim.specs.Phases.{dword, user_by, phase_from, kind_now}
+use Rattle.kernel_sim.specs.Phases.{dword, user_after, phase_from, kind_now}
 use Rattle.kernel_sim.specs.Steps.{follows}
 use Rattle.kernel_sim.specs.Stages.{Stage, NoCall, Outside, Long, Breaking, base, Saying, Said, Ending, Ended, stage_kind, stage_number, BootStage, Booting, BootWaiting, BootTested, BootTaking, Leaving, boot_kind, boot_number, InKernel, InBoot, InUser, Place, HoldsAs, BreaksAre, Links, Extra}
 use Rattle.kernel_sim.specs.Rows.{call_part}
@@ -169,7 +169,7 @@ abbrev pub LocalBreak : Phase → System → System → Type 0
 LocalBreak p old new = (dword new.bus kernel_variables ≡ p.user.brk) ⊎ (call_part p old.bus.user ≡ breaks (dword new.bus kernel_variables))
 
 -- ---- the phase's break and first break
-break-after : (was now : PhaseKind) (u : UserState) (new : System) → (was ≢ Boot → was ≢ Local → u.brk ≡ dword new.bus kernel_variables) → follows was now ≡ true → now ≢ Boot → (user_by was now u new).brk ≡ dword new.bus kernel_variables
+break-after : (was now : PhaseKind) (u : UserState) (new : System) → (was ≢ Boot → was ≢ Local → u.brk ≡ dword new.bus kernel_variables) → follows was now ≡ true → now ≢ Boot → (user_after was now u new).brk ≡ dword new.bus kernel_variables
 break-after Boot Boot u new f e n = absurd (n refl)
 break-after Boot BootWait u new f e n = refl
 break-after Boot now u new f e n = absurd (false≢true e)
@@ -196,7 +196,7 @@ break-after Restore now u new f e n = f (λ z. cc) (λ z. cc)
 break-after Speak now u new f e n = f (λ z. cc) (λ z. cc)
 break-after Closing now u new f e n = f (λ z. cc) (λ z. cc)
 
-first-after : (was now : PhaseKind) (u : UserState) (new : System) → (was ≢ Boot → u.first_break ≡ dword new.bus (boot + 8)) → follows was now ≡ true → now ≢ Boot → (user_by was now u new).first_break ≡ dword new.bus (boot + 8)
+first-after : (was now : PhaseKind) (u : UserState) (new : System) → (was ≢ Boot → u.first_break ≡ dword new.bus (boot + 8)) → follows was now ≡ true → now ≢ Boot → (user_after was now u new).first_break ≡ dword new.bus (boot + 8)
 first-after Boot Boot u new f e n = absurd (n refl)
 first-after Boot BootWait u new f e n = refl
 first-after Boot now u new f e n = absurd (false≢true e)

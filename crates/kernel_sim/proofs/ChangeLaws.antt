@@ -23,7 +23,7 @@ use Rattle.kernel_sim.proofs.UserSteps.{seen_by}
 use Rattle.kernel_sim.specs.declared.phase.PhaseKind.{PhaseKind}
 use Rattle.kernel_sim.specs.declared.phase.PhaseKind.TheVariants.{Boot, BootWait, BootTake, Leave, User, Save, Check, Scan, Fill, Wait, Take, Local, Restore, Speak, Closing}
 use Rattle.kernel_sim.specs.declared.phase.Phase.{Phase}
-use Rattle.kernel_sim.specs.Phases.{request_of, answered, user_by, text_by, scanned_by}
+use Rattle.kernel_sim.specs.Phases.{request_of, answered, user_after, text_after, scanned_after}
 use Rattle.kernel_sim.specs.Rows.{call_part}
 use Rattle.kernel_sim.specs.Steps.{follows}
 use Rattle.kernel_sim.specs.Traps.{TrapTold}
@@ -37,70 +37,70 @@ use Rattle.kernel_sim.proofs.HostLaws.{shut-of, boot-shut}
 use Rattle.kernel_sim.proofs.BreakLaws.{LocalBreak}
 
 -- ---- the program's state
-pub user-after : (was now : PhaseKind) (p : Phase) (old new : System) → follows was now ≡ true → Told was now p old new → p.request ≡ request_of old.bus → MailboxKept was now old.bus new.bus → (was ≡ Local → LocalBreak p old new) → UserAfter was now p old new (user_by was now p.user new)
-user-after Boot BootWait p old new e t r m b = rw t.2 refl
-user-after Boot Boot p old new e t r m b = refl
-user-after Boot now p old new e t r m b = absurd (false≢true e)
-user-after BootWait now p old new e t r m b = refl
-user-after BootTake now p old new e t r m b = refl
-user-after Leave User p old new e t r m b = rw (t.0, t.1) refl
-user-after Leave Leave p old new e t r m b = refl
-user-after Leave now p old new e t r m b = absurd (false≢true e)
-user-after User User p old new e t r m b = (t.0, t.1, rw (t.2, t.3) refl, t.4)
-user-after User Save p old new e t r m b = refl
-user-after User now p old new e t r m b = absurd (false≢true e)
-user-after Save now p old new e t r m b = refl
-user-after Check now p old new e t r m b = refl
-user-after Scan now p old new e t r m b = refl
-user-after Fill now p old new e t r m b = refl
-user-after Wait now p old new e t r m b = refl
-user-after Take Restore p old new e t r m b =
+pub user-changes : (was now : PhaseKind) (p : Phase) (old new : System) → follows was now ≡ true → Told was now p old new → p.request ≡ request_of old.bus → MailboxKept was now old.bus new.bus → (was ≡ Local → LocalBreak p old new) → UserAfter was now p old new (user_after was now p.user new)
+user-changes Boot BootWait p old new e t r m b = rw t.2 refl
+user-changes Boot Boot p old new e t r m b = refl
+user-changes Boot now p old new e t r m b = absurd (false≢true e)
+user-changes BootWait now p old new e t r m b = refl
+user-changes BootTake now p old new e t r m b = refl
+user-changes Leave User p old new e t r m b = rw (t.0, t.1) refl
+user-changes Leave Leave p old new e t r m b = refl
+user-changes Leave now p old new e t r m b = absurd (false≢true e)
+user-changes User User p old new e t r m b = (t.0, t.1, rw (t.2, t.3) refl, t.4)
+user-changes User Save p old new e t r m b = refl
+user-changes User now p old new e t r m b = absurd (false≢true e)
+user-changes Save now p old new e t r m b = refl
+user-changes Check now p old new e t r m b = refl
+user-changes Scan now p old new e t r m b = refl
+user-changes Fill now p old new e t r m b = refl
+user-changes Wait now p old new e t r m b = refl
+user-changes Take Restore p old new e t r m b =
     let first : slice_index new.hart.registers 10 ≡ slice_index p.request 0 = t.0 ∙ ap (λ z. slice_index z 0) (m.2 ∙ sym r) in
     rw (first, t.1) refl
-user-after Take Take p old new e t r m b = refl
-user-after Take now p old new e t r m b = absurd (false≢true e)
-user-after Local Local p old new e t r m b = go (b refl)
+user-changes Take Take p old new e t r m b = refl
+user-changes Take now p old new e t r m b = absurd (false≢true e)
+user-changes Local Local p old new e t r m b = go (b refl)
   where
-    go : LocalBreak p old new → UserAfter Local Local p old new (user_by Local Local p.user new)
+    go : LocalBreak p old new → UserAfter Local Local p old new (user_after Local Local p.user new)
     go (inl q) = inl (rw q refl)
     go (inr q) = inr (q, refl)
-user-after Local Restore p old new e t r m b = (slice_index new.hart.registers 10, go t)
+user-changes Local Restore p old new e t r m b = (slice_index new.hart.registers 10, go t)
   where
     go : Told Local Restore p old new
-        → ((call_part p old.bus.user ≡ gives (slice_index new.hart.registers 10)) × (user_by Local Restore p.user new ≡ answered (slice_index new.hart.registers 10) p.user))
-        ⊎ ((call_part p old.bus.user ≡ breaks (slice_index new.hart.registers 10)) × (user_by Local Restore p.user new ≡ record (answered (slice_index new.hart.registers 10) p.user) { brk = slice_index new.hart.registers 10 }))
+        → ((call_part p old.bus.user ≡ gives (slice_index new.hart.registers 10)) × (user_after Local Restore p.user new ≡ answered (slice_index new.hart.registers 10) p.user))
+        ⊎ ((call_part p old.bus.user ≡ breaks (slice_index new.hart.registers 10)) × (user_after Local Restore p.user new ≡ record (answered (slice_index new.hart.registers 10) p.user) { brk = slice_index new.hart.registers 10 }))
     go (inl q) = inl (q.0, rw q.1 refl)
     go (inr q) = inr (q.0, rw q.1 refl)
-user-after Local now p old new e t r m b = absurd (false≢true e)
-user-after Restore now p old new e t r m b = refl
-user-after Speak now p old new e t r m b = refl
-user-after Closing now p old new e t r m b = refl
+user-changes Local now p old new e t r m b = absurd (false≢true e)
+user-changes Restore now p old new e t r m b = refl
+user-changes Speak now p old new e t r m b = refl
+user-changes Closing now p old new e t r m b = refl
 
 -- ---- the message
-pub text-after : (was now : PhaseKind) (p : Phase) (old new : System) → follows was now ≡ true → Told was now p old new → TextAfter was now p old (text_by was now p new)
-text-after User Save p old new e t = go t.0
+pub text-changes : (was now : PhaseKind) (p : Phase) (old new : System) → follows was now ≡ true → Told was now p old new → TextAfter was now p old (text_after was now p new.hart)
+text-changes User Save p old new e t = go t.0
   where
-    go : TrapTold old new → TextAfter User Save p old (text_by User Save p new)
+    go : TrapTold old new → TextAfter User Save p old (text_after User Save p new.hart)
     go (inl h) = inl (h.0, let b : (new.hart.csrs.mcause == 8) ≡ true = eq-eqb _ _ h.1 in rw b refl)
     go (inr h) = inr (h.0, h.1, h.2, let b : (new.hart.csrs.mcause == 8) ≡ false = ne_eqb _ _ (λ z. h.5 (sym h.3 ∙ z)) in rw b (rw (h.3, h.4) refl))
-text-after User User p old new e t = refl
-text-after User now p old new e t = absurd (false≢true e)
-text-after Speak Speak p old new e t = refl
-text-after Speak Closing p old new e t = refl
-text-after Speak now p old new e t = absurd (false≢true e)
-text-after Boot now p old new e t = refl
-text-after BootWait now p old new e t = refl
-text-after BootTake now p old new e t = refl
-text-after Leave now p old new e t = refl
-text-after Save now p old new e t = refl
-text-after Check now p old new e t = refl
-text-after Scan now p old new e t = refl
-text-after Fill now p old new e t = refl
-text-after Wait now p old new e t = refl
-text-after Take now p old new e t = refl
-text-after Local now p old new e t = refl
-text-after Restore now p old new e t = refl
-text-after Closing now p old new e t = refl
+text-changes User User p old new e t = refl
+text-changes User now p old new e t = absurd (false≢true e)
+text-changes Speak Speak p old new e t = refl
+text-changes Speak Closing p old new e t = refl
+text-changes Speak now p old new e t = absurd (false≢true e)
+text-changes Boot now p old new e t = refl
+text-changes BootWait now p old new e t = refl
+text-changes BootTake now p old new e t = refl
+text-changes Leave now p old new e t = refl
+text-changes Save now p old new e t = refl
+text-changes Check now p old new e t = refl
+text-changes Scan now p old new e t = refl
+text-changes Fill now p old new e t = refl
+text-changes Wait now p old new e t = refl
+text-changes Take now p old new e t = refl
+text-changes Local now p old new e t = refl
+text-changes Restore now p old new e t = refl
+text-changes Closing now p old new e t = refl
 
 -- ---- the bytes of a path
 pub few-scanned : (p : Phase) (sys : System) (i : InKernel Scan p sys) → p.scanned ≤ greatest_path
@@ -114,34 +114,34 @@ few-scanned p sys i = go i.stage i.staged i.extra
     go Full e x = let z = x.1 in let l = x.0.below in omega arith
     go st e x = cc
 
-pub scanned-after : (was now : PhaseKind) (p : Phase) (sys : System) (pc : ℕ) → follows was now ≡ true → Place was p sys → ScannedAfter was now p.scanned (scanned_by was now p.scanned pc)
-scanned-after Scan Scan p sys pc e i = go (pc == pc_path_passed)
+pub scanned-changes : (was now : PhaseKind) (p : Phase) (sys : System) (pc : ℕ) → follows was now ≡ true → Place was p sys → ScannedAfter was now p.scanned (scanned_after was now p.scanned pc)
+scanned-changes Scan Scan p sys pc e i = go (pc == pc_path_passed)
   where
     go : (b : Bool) → ((if b then min (p.scanned + 1) (2 ^ 32 - 1) else p.scanned) ≡ p.scanned) ⊎ ((if b then min (p.scanned + 1) (2 ^ 32 - 1) else p.scanned) ≡ p.scanned + 1)
     go true = let l = few-scanned p sys i in inr (omega arith)
     go false = inl refl
-scanned-after Scan Local p sys pc e i = refl
-scanned-after Scan Fill p sys pc e i = refl
-scanned-after Scan now p sys pc e i = absurd (false≢true e)
-scanned-after Check Scan p sys pc e i = refl
-scanned-after Check Check p sys pc e i = refl
-scanned-after Check Local p sys pc e i = refl
-scanned-after Check Fill p sys pc e i = refl
-scanned-after Check Speak p sys pc e i = refl
-scanned-after Check now p sys pc e i = absurd (false≢true e)
-scanned-after Boot now p sys pc e i = refl
-scanned-after BootWait now p sys pc e i = refl
-scanned-after BootTake now p sys pc e i = refl
-scanned-after Leave now p sys pc e i = refl
-scanned-after User now p sys pc e i = refl
-scanned-after Save now p sys pc e i = refl
-scanned-after Fill now p sys pc e i = refl
-scanned-after Wait now p sys pc e i = refl
-scanned-after Take now p sys pc e i = refl
-scanned-after Local now p sys pc e i = refl
-scanned-after Restore now p sys pc e i = refl
-scanned-after Speak now p sys pc e i = refl
-scanned-after Closing now p sys pc e i = refl
+scanned-changes Scan Local p sys pc e i = refl
+scanned-changes Scan Fill p sys pc e i = refl
+scanned-changes Scan now p sys pc e i = absurd (false≢true e)
+scanned-changes Check Scan p sys pc e i = refl
+scanned-changes Check Check p sys pc e i = refl
+scanned-changes Check Local p sys pc e i = refl
+scanned-changes Check Fill p sys pc e i = refl
+scanned-changes Check Speak p sys pc e i = refl
+scanned-changes Check now p sys pc e i = absurd (false≢true e)
+scanned-changes Boot now p sys pc e i = refl
+scanned-changes BootWait now p sys pc e i = refl
+scanned-changes BootTake now p sys pc e i = refl
+scanned-changes Leave now p sys pc e i = refl
+scanned-changes User now p sys pc e i = refl
+scanned-changes Save now p sys pc e i = refl
+scanned-changes Fill now p sys pc e i = refl
+scanned-changes Wait now p sys pc e i = refl
+scanned-changes Take now p sys pc e i = refl
+scanned-changes Local now p sys pc e i = refl
+scanned-changes Restore now p sys pc e i = refl
+scanned-changes Speak now p sys pc e i = refl
+scanned-changes Closing now p sys pc e i = refl
 
 -- ---- the waits
 pub waits-kind : (was now : PhaseKind) (p : Phase) (old new : System) → follows was now ≡ true → Told was now p old new → (was ≡ BootWait) ⊎ (was ≡ Wait) → p.fromhost ≡ 0 → now ≡ was

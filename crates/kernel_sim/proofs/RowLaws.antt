@@ -42,7 +42,7 @@ use Rattle.kernel_sim.specs.declared.phase.UserState.{UserState}
 use Rattle.kernel_sim.specs.Phases.{dword, request_of, message}
 use Rattle.kernel_sim.specs.Stages.{Stage, Saving, Checking, Starting, Scanning, Looked, Past, Full, Restoring, Choosing, base, Saying, Said, Ending, Ended, stage_kind, stage_number, Says, ScanIs, ByteIs, CauseIs, PcIs, Extra, InKernel, boot_number, InBoot, InUser, Place, HoldsAs, BreaksAre, Known}
 use Rattle.kernel_sim.proofs.Told.{PartIs}
-use Rattle.kernel_sim.specs.Rows.{mode_of, IsSet, HasScratch, SetRow, in_frame, InFrame, IsSaved, IsTold, IsCallOrTold, InCall, IsPathByte, boot_request, Row}
+use Rattle.kernel_sim.specs.Rows.{mode_of, IsSet, HasScratch, SetRow, in_frame, InFrame, IsSaved, TellsTrap, IsCallOrTrap, InCall, IsPathByte, boot_request, Row}
 use Rattle.kernel_sim.specs.Holds.{Holds}
 use Rattle.kernel_sim.proofs.Gates.{number_code, kind_code, cell_of}
 use Rattle.kernel_sim.proofs.PlaceLaws.{code-of, boot-code}
@@ -244,7 +244,7 @@ module _ (p : Phase) (sys : System) where
     call-is : is_call_kind k ≡ true → trap_csrs u ≡ true → sys.hart.csrs.mcause ≡ 8
     call-is c e = (cause-is i.user i.env u sys m e).0 ∙ call-of i.stage (i.env v_cause) (ap is_call_kind i.staged ∙ c) i.links.cause_is
 
-    says-is : trap_csrs u ≡ true → epc_here u ≡ true → i.env v_cause ≢ 8 → Says p.text i.env → IsTold p sys
+    says-is : trap_csrs u ≡ true → epc_here u ≡ true → i.env v_cause ≢ 8 → Says p.text i.env → TellsTrap p sys
     says-is t e n s =
         let a = cause-is i.user i.env u sys m t in
         let b = epc-is i.user i.env u sys m (Var v_pc) e in
@@ -282,7 +282,7 @@ module _ (p : Phase) (sys : System) where
       let a4 = and_parts (epc_here s) _ a3.1 in
       ((set-row k i a1.0 b, scratch-row k i a3.0), in-call k i c n a2.0 a4.0 a4.1)
 
-  told-parts : (k : PhaseKind) (i : InKernel k p sys) → (set_csrs i.here.state && (trap_csrs i.here.state && (scratch_set i.here.state && (epc_here i.here.state && true)))) ≡ true → is_told_kind k ≡ true → Breaks → (Says p.text i.env → IsTold p sys) × (IsSet p sys × HasScratch sys)
+  told-parts : (k : PhaseKind) (i : InKernel k p sys) → (set_csrs i.here.state && (trap_csrs i.here.state && (scratch_set i.here.state && (epc_here i.here.state && true)))) ≡ true → is_told_kind k ≡ true → Breaks → (Says p.text i.env → TellsTrap p sys) × (IsSet p sys × HasScratch sys)
   told-parts k i e c b =
       let s = i.here.state in
       let a1 = and_parts (set_csrs s) _ e in
@@ -322,7 +322,7 @@ module _ (p : Phase) (sys : System) where
       go st e x = cc
 
   -- ---- the rows
-  call-or-told : (k : PhaseKind) (i : InKernel k p sys) → trap_csrs i.here.state ≡ true → epc_here i.here.state ≡ true → (i.env v_cause ≡ 8) ⊎ ((i.env v_cause ≢ 8) × Says p.text i.env × (p.text.posted ≡ 0)) → IsCallOrTold p sys
+  call-or-told : (k : PhaseKind) (i : InKernel k p sys) → trap_csrs i.here.state ≡ true → epc_here i.here.state ≡ true → (i.env v_cause ≡ 8) ⊎ ((i.env v_cause ≢ 8) × Says p.text i.env × (p.text.posted ≡ 0)) → IsCallOrTrap p sys
   call-or-told k i t e (inl c) = inl ((cause-is i.user i.env i.here.state sys i.here.describes t).0 ∙ c)
   call-or-told k i t e (inr c) = inr (says-is k i t e c.0 c.1, c.2)
 

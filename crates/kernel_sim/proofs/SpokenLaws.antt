@@ -23,7 +23,7 @@ use Rattle.kernel_code.specs.Calls.{call_blocks}
 use Rattle.kernel_code.specs.TrapWords.{trap_blocks}
 use Rattle.kernel_code.specs.CounterWords.{counter_blocks}
 use Rattle.kernel_code.specs.Shorthand.{cells_0, cells_1, cells_2, cells_3, cells_4, cells_5, cells_6, cells_7, cells_8, cells_9, csrs_0, csrs_1, csrs_2}
-use Rattle.kernel_sim.specs.Phases.{message, console_word, dword, kernel_kind, kind_of, kind_now, text_by, next_phase, phase_from}
+use Rattle.kernel_sim.specs.Phases.{message, console_word, dword, kernel_kind, kind_of, kind_now, text_after, next_phase, phase_from}
 use Rattle.kernel_sim.specs.Stages.{Stage, Choosing, base, Saying, Said, Ending, Ended, stage_kind, stage_number, Says, Extra, Links, InKernel, HoldsAs, Known}
 use Rattle.kernel_sim.specs.Ready.{need, NeedIs}
 use Rattle.kernel_sim.specs.Stores.{exit_word, NextByte, NoByte, NoExit, ExitWord, Stores}
@@ -214,7 +214,7 @@ module _ (p : Phase) (sys : System) (fit : AreRegisters sys.hart.registers) (fit
   now-word = bus_load-kernel after.bus tohost 8 (omega arith)
 
   -- nothing was posted
-  same-text : (now : PhaseKind) → (after.hart.pc == pc_put_done) ≡ false → (text_by Speak now p after).posted ≡ p.text.posted
+  same-text : (now : PhaseKind) → (after.hart.pc == pc_put_done) ≡ false → (text_after Speak now p after.hart).posted ≡ p.text.posted
   same-text Speak e = rw e refl
   same-text Boot e = refl
   same-text BootWait e = refl
@@ -235,7 +235,7 @@ module _ (p : Phase) (sys : System) (fit : AreRegisters sys.hart.registers) (fit
   one-more pc e l = let k : min (p.text.posted + 1) (2 ^ 32 - 1) ≡ p.text.posted + 1 = omega arith in rw e k
 
   abbrev SpeakStored : Type 0
-  SpeakStored = NoByte p (dword after.bus tohost) (text_by Speak (kind_now after) p after).posted ⊎ NextByte p (dword after.bus tohost) (text_by Speak (kind_now after) p after).posted
+  SpeakStored = NoByte p (dword after.bus tohost) (text_after Speak (kind_now after) p after.hart).posted ⊎ NextByte p (dword after.bus tohost) (text_after Speak (kind_now after) p after.hart).posted
 
   abbrev SpeakResult : Type 0
   SpeakResult = SpeakStored × (after.hart.pc ≢ pc_idle)
@@ -247,7 +247,7 @@ module _ (p : Phase) (sys : System) (fit : AreRegisters sys.hart.registers) (fit
   unfolding kernel_kind
   next-byte m e z l word =
       let k : kind_now after ≡ Speak = ap (λ y. kind_of y after.hart.pc) m ∙ ap kernel_kind e in
-      inr (z, word (ap (λ y. y == pc_put_done) e), subst (λ y. (text_by Speak y p after).posted ≡ p.text.posted + 1) (sym k) (one-more after.hart.pc e l))
+      inr (z, word (ap (λ y. y == pc_put_done) e), subst (λ y. (text_after Speak y p after.hart).posted ≡ p.text.posted + 1) (sym k) (one-more after.hart.pc e l))
 
   speak : (i : InKernel Speak p sys) → Before → Need_held → SpeakResult
   speak i b n = go i.stage i.staged i.here i.links i.extra

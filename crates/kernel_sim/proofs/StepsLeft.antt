@@ -17,7 +17,7 @@ use Rattle.kernel_steps.proofs.Rebase.{with_var, state_avoids, fresh, learn_reg,
 use Rattle.kernel_code.specs.StepsLeft.{left_table, left_at, loads_word, tests_word, is_left_out, is_lower, all_lower, may_end, lowers}
 use Rattle.kernel_code.specs.Places.{pc_boot_wait, pc_boot_test, pc_wait, pc_wait_test, pc_put, pc_put_test, pc_put_store, pc_put_done, pc_closing, pc_closing_test, pc_idle, pc_path_test, pc_path_passed, pc_save, pc_path_load, pc_path_loaded, pc_return, pc_leave_return, tohost_cell, fromhost_cell, tohost_place, fromhost_place}
 use Rattle.kernel_code.specs.Numbers.{v_before, v_seen, store_gates}
-use Rattle.kernel_sim.specs.Phases.{kernel_kind, kind_of, kind_now, dword, text_by, scanned_by, phase_from, next_phase}
+use Rattle.kernel_sim.specs.Phases.{kernel_kind, kind_of, kind_now, dword, text_after, scanned_after, phase_from, next_phase}
 use Rattle.kernel_sim.specs.Stages.{Stage, Choosing, Saying, Said, stage_kind, stage_number, boot_number, Extra, InKernel, InBoot, InUser, HoldsAs, Known}
 use Rattle.kernel_sim.specs.HostWrites.{HostWrite, Clears, Results, Answers, Fills, written}
 use Rattle.kernel_sim.specs.Begins.{begun_hart}
@@ -452,7 +452,7 @@ module _ (p : Phase) (sys : System) (fit : AreRegisters sys.hart.registers) (who
       let now : kind_now next ≡ Speak = ap (λ z. kind_of z next.hart.pc) m ∙ ap kernel_kind to in
       let l = few.0 (sym kind) in
       let one : min (p.text.posted + 1) (2 ^ 32 - 1) ≡ p.text.posted + 1 = omega arith in
-      Puts (subst (λ z. (text_by z (kind_now next) p next).posted ≡ p.text.posted + 1) kind (subst (λ z. (text_by Speak z p next).posted ≡ p.text.posted + 1) (sym now) (rw to one))) (omega arith)
+      Puts (subst (λ z. (text_after z (kind_now next) p next.hart).posted ≡ p.text.posted + 1) kind (subst (λ z. (text_after Speak z p next.hart).posted ≡ p.text.posted + 1) (sym now) (rw to one))) (omega arith)
 
   passes-case : (k : PhaseKind) → kernel_kind pc_path_test ≡ k → k ≢ User → Few k → next.hart.mode ≡ mode.Machine → sys.hart.pc ≡ pc_path_test → next.hart.pc ≡ pc_path_passed → Goal k
   unfolding kernel_kind
@@ -463,7 +463,7 @@ module _ (p : Phase) (sys : System) (fit : AreRegisters sys.hart.registers) (who
       let now : kind_now next ≡ Scan = ap (λ z. kind_of z next.hart.pc) m ∙ ap kernel_kind to in
       let l = few.1 (sym kind) in
       let one : min (p.scanned + 1) (2 ^ 32 - 1) ≡ p.scanned + 1 = omega arith in
-      Passes (subst (λ z. scanned_by z (kind_now next) p.scanned next.hart.pc ≡ p.scanned + 1) kind (subst (λ z. scanned_by Scan z p.scanned next.hart.pc ≡ p.scanned + 1) (sym now) (rw to one))) (omega arith)
+      Passes (subst (λ z. scanned_after z (kind_now next) p.scanned next.hart.pc ≡ p.scanned + 1) kind (subst (λ z. scanned_after Scan z p.scanned next.hart.pc ≡ p.scanned + 1) (sym now) (rw to one))) (omega arith)
 
   other-case : (k : PhaseKind) (a b : ℕ) → kernel_kind a ≡ k → k ≢ User → Few k → next.hart.mode ≡ mode.Machine → sys.hart.pc ≡ a → next.hart.pc ≡ b → loads_word a ≡ false → tests_word a ≡ false → is_lower a b ≡ true → Goal k
   other-case k a b kind u few m at to l t e =

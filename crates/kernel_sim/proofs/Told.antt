@@ -4,7 +4,7 @@ use Rattle.fe_base.specs.MemoryMap.{tohost, request, kernel_variables, boot}
 use Rattle.guest_memory.specs.Bus.{BusState}
 use Rattle.rv_hart.specs.HartStep.{System}
 use Rattle.plain_machine.specs.KernelPart.{gives, breaks, posts, scans, first_part}
-use Rattle.plain_machine.specs.UserStep.{UserState, next, user_step}
+use Rattle.plain_machine.specs.UserStep.{UserState as ProgramState, next, user_step}
 use Rattle.kernel_sim.specs.UserMode.{user_of}
 use Rattle.kernel_sim.specs.declared.phase.PhaseKind.{PhaseKind}
 use Rattle.kernel_sim.specs.declared.phase.PhaseKind.TheVariants.{Boot, BootWait, BootTake, Leave, User, Save, Scan, Fill, Wait, Take, Local, Restore, Closing}
@@ -19,7 +19,7 @@ abbrev pub Told : PhaseKind → PhaseKind → Phase → System → System → Ty
 Told Boot BootWait p old new = (request_of new.bus ≡ boot_request) × (dword new.bus tohost ≡ request) × (dword new.bus kernel_variables ≡ dword new.bus (boot + 8))
 Told BootWait BootTake p old new = p.fromhost ≢ 0
 Told Leave User p old new = (new.hart.pc ≡ dword old.bus boot) × (new.hart.registers ≡ entry_registers)
-Told User User p old new = (state : UserState) × (user_step (user_of old) ≡ next state) × (new.hart.pc ≡ state.pc) × (new.hart.registers ≡ state.registers) × (new.bus.user ≡ state.user)
+Told User User p old new = (state : ProgramState) × (user_step (user_of old) ≡ next state) × (new.hart.pc ≡ state.pc) × (new.hart.registers ≡ state.registers) × (new.bus.user ≡ state.user)
 Told User Save p old new = TrapTold old new × (new.bus.user ≡ old.bus.user)
 Told Fill Wait p old new = (call_part p old.bus.user ≡ posts (request_of new.bus)) × (dword new.bus tohost ≡ request)
 Told Wait Take p old new = p.fromhost ≢ 0

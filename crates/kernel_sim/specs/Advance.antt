@@ -1,4 +1,5 @@
--- What one step of the hart does to a phase, and what a write of the host does: the laws that a run of kernel and host stands on.
+-- What one step of the hart does to a phase, and what a write of the host does: the laws that a run of kernel and host
+-- stands on.
 use Rattle.std.specs.Prelude.{◌≡◌, ℕ, ◌^◌, ◌<◌, ◌≤◌, true, ⊤}
 use Rattle.fe_base.specs.MemoryMap.{tohost, fromhost, request}
 use Rattle.guest_memory.specs.Bus.{BusState, IsBus, with_beat}
@@ -21,13 +22,15 @@ use Rattle.kernel_sim.specs.Mailbox.{MailboxKept}
 use Rattle.kernel_sim.specs.Kept.{UserKept, BootBlockKept}
 use Rattle.kernel_sim.specs.HostWrites.{HostWrite, written}
 
--- the waits are entered by the store of REQUEST's address to TOHOST, behind a whole request: the first one, or that of the kernel part of the call
+-- the waits are entered by the store of REQUEST's address to TOHOST, behind a whole request: the first one, or that of
+-- the kernel part of the call
 abbrev pub Posted : PhaseKind → PhaseKind → Phase → System → System → Type 0
 Posted Boot BootWait p old new = (request_of new.bus ≡ boot_request) × (dword new.bus tohost ≡ request)
 Posted Fill Wait p old new = (call_part p old.bus.user ≡ posts (request_of new.bus)) × (dword new.bus tohost ≡ request)
 Posted was now p old new = ⊤
 
--- a step from one phase to another: the kinds follow each other, the fields change as they may, and the mailbox, the user bytes, the boot block, the code and the count of user steps do
+-- a step from one phase to another: the kinds follow each other, the fields change as they may, and the mailbox, the
+-- user bytes, the boot block, the code and the count of user steps do
 pub record Advances (p : Phase) (old new : System) (q : Phase) : Type 0 where
   pub order : follows p.kind q.kind ≡ true
   pub user : UserAfter p.kind q.kind p old new q.user
@@ -56,11 +59,16 @@ BeginHolds = (p : Phase) (bus : BusState) → IsBus bus → IsLoaded bus → IsB
 
 -- a step of the hart from a phase that holds leads to the next phase, which holds
 abbrev pub StepsAdvance : Type 0
-StepsAdvance = (p : Phase) (sys : System) → Holds p sys → IsSystem sys → Holds (next_phase p (hart_step sys)) (hart_step sys) × Advances p sys (hart_step sys) (next_phase p (hart_step sys))
+StepsAdvance =
+    (p : Phase) (sys : System) → Holds p sys → IsSystem sys
+    → Holds (next_phase p (hart_step sys)) (hart_step sys)
+    × Advances p sys (hart_step sys) (next_phase p (hart_step sys))
 
 -- a write that the host may make leaves a phase that holds
 abbrev pub HostWritesHold : Type 0
-HostWritesHold = (p : Phase) (sys : System) (at value : ℕ) → value < 2 ^ 64 → IsBus sys.bus → HostWrite at value p → Holds p sys → Holds (written at value p) (over (with_beat sys.bus at value) sys.hart)
+HostWritesHold =
+    (p : Phase) (sys : System) (at value : ℕ) → value < 2 ^ 64 → IsBus sys.bus → HostWrite at value p → Holds p sys
+    → Holds (written at value p) (over (with_beat sys.bus at value) sys.hart)
 
 -- each step makes progress: it lowers the number of steps left, or is one of those that need not
 abbrev pub StepsLower : Type 0

@@ -14,7 +14,8 @@ use Rattle.fe_base.specs.MemoryMap.{boot, tohost, fromhost}
 abbrev pub begun_hart : HartState
 begun_hart = record reset_hart { run = Running }
 
--- the image's words stand at their places, the boot block's entry is one of an instruction, and TOHOST, FROMHOST and REQUEST hold 0
+-- the image's words stand at their places, the boot block's entry is one of an instruction, and TOHOST, FROMHOST and
+-- REQUEST hold 0
 pub record IsLoaded (bus : BusState) : Type 0 where
   pub code : IsImage bus.kernel
   pub entry : dword bus boot % instruction_alignment ≡ 0
@@ -24,7 +25,9 @@ pub record IsLoaded (bus : BusState) : Type 0 where
 
 -- a kernel area that begins with bytes whose words decode to the kernel's instructions holds the image
 abbrev pub ImageLoads : Type 0
-ImageLoads = (bytes rest : List ℕ) → HoldsInsns bytes kernel_insns → length bytes ≡ 4 * kernel_count → IsImage (bytes ++ rest)
+ImageLoads =
+    (bytes rest : List ℕ) → HoldsInsns bytes kernel_insns → length bytes ≡ 4 * kernel_count
+    → IsImage (bytes ++ rest)
 
 -- over a start word that is not 0, the first step after reset lets the hart run, and does nothing else
 abbrev pub ResetBegins : Type 0

@@ -1,5 +1,5 @@
 -- Which fields of a phase a step changes, and how; all others stay.
-use Rattle.std.specs.Prelude.{◌≡◌, ◌⊎◌, ℕ, ◌+◌, ◌≤◌, ◌==◌, ◌&&◌, List, [], ◌∷◌, slice_index}
+use Rattle.std.specs.Prelude.{◌≡◌, ◌⊎◌, ℕ, ◌+◌, ◌≤◌, ◌==◌, ◌&&◌, List, ◌∷◌, replicate, slice_index}
 use Rattle.fe_base.specs.Memory.{counted}
 use Rattle.fe_base.specs.MemoryMap.{boot, kernel_code_size}
 use Rattle.guest_memory.specs.Bus.{BusState}
@@ -21,16 +21,21 @@ use Rattle.kernel_sim.specs.Rows.{call_part}
 
 -- the registers with which the program begins: sp at 0x0100_0000, all others 0
 abbrev pub entry_registers : List ℕ
-entry_registers = 0 ∷ 0 ∷ 0x1000000 ∷ 0 ∷ 0 ∷ 0 ∷ 0 ∷ 0 ∷ 0 ∷ 0 ∷ 0 ∷ 0 ∷ 0 ∷ 0 ∷ 0 ∷ 0 ∷ 0 ∷ 0 ∷ 0 ∷ 0 ∷ 0 ∷ 0 ∷ 0 ∷ 0 ∷ 0 ∷ 0 ∷ 0 ∷ 0 ∷ 0 ∷ 0 ∷ 0 ∷ 0 ∷ []
+entry_registers = 0 ∷ 0 ∷ 0x1000000 ∷ replicate 29 0
 
 -- the program's state after a step from one kind to another
 abbrev pub UserAfter : PhaseKind → PhaseKind → Phase → System → System → UserState → Type 0
 -- the break and the first break become the boot block's first break
-UserAfter Boot BootWait p old new u = u ≡ record p.user { brk = dword new.bus (boot + 8); first_break = dword new.bus (boot + 8) }
+UserAfter Boot BootWait p old new u =
+    u ≡ record p.user { brk = dword new.bus (boot + 8); first_break = dword new.bus (boot + 8) }
 -- the program begins at the boot block's entry
 UserAfter Leave User p old new u = u ≡ record p.user { pc = dword old.bus boot; regs = entry_registers }
 -- a user step of the direct machine, user bytes included
-UserAfter User User p old new u = (state : ProgramState) × (user_step (user_of old) ≡ next state) × (u ≡ record p.user { pc = state.pc; regs = state.registers }) × (new.bus.user ≡ state.user)
+UserAfter User User p old new u =
+    (state : ProgramState)
+    × (user_step (user_of old) ≡ next state)
+    × (u ≡ record p.user { pc = state.pc; regs = state.registers })
+    × (new.bus.user ≡ state.user)
 -- a0 becomes the request's first doubleword, and the pc goes on behind the call
 UserAfter Take Restore p old new u = u ≡ answered (slice_index p.request 0) p.user
 -- a0 becomes the answer of the kernel part of the call, and with brk the break does
@@ -44,13 +49,24 @@ UserAfter Local Local p old new u =
 UserAfter was now p old new u = u ≡ p.user
 
 -- the message of a trap that the program takes
-abbrev pub told_of : Cause → ℕ → ℕ → Spoken
-told_of cause value at = record { counter = (cause_number cause == 2) && is_counter_access value; cause = cause_number cause; at = at; value = value; posted = 0 }
+abbrev pub spoken_of : Cause → ℕ → ℕ → Spoken
+spoken_of cause value at = record {
+  counter = (cause_number cause == 2) && is_counter_access value;
+  cause = cause_number cause;
+  at = at;
+  value = value;
+  posted = 0;
+}
 
--- the message after a step from one kind to another: a trap that is no call sets it, and in Speak it is posted byte by byte
+-- the message after a step from one kind to another: a trap that is no call sets it, and in Speak it is posted byte by
+-- byte
 abbrev pub TextAfter : PhaseKind → PhaseKind → Phase → System → Spoken → Type 0
 TextAfter User Save p old t =
-    ((user_step (user_of old) ≡ call) × (t ≡ p.text)) ⊎ ((cause : Cause) × (value : ℕ) × (user_step (user_of old) ≡ trap cause value) × (t ≡ told_of cause value p.user.pc))
+    ((user_step (user_of old) ≡ call) × (t ≡ p.text))
+    ⊎ ((cause : Cause)
+    × (value : ℕ)
+    × (user_step (user_of old) ≡ trap cause value)
+    × (t ≡ spoken_of cause value p.user.pc))
 TextAfter Speak Speak p old t = t ≡ record p.text { posted = t.posted }
 TextAfter was now p old t = t ≡ p.text
 

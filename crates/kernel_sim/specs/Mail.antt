@@ -10,6 +10,7 @@ pub data MailClass : Type 0 where
   Given : MailClass
   Spoken : MailClass
 
+-- the class of a kind
 abbrev pub mail_class : PhaseKind → MailClass
 mail_class BootWait = Asked
 mail_class Wait = Asked

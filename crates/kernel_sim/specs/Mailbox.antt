@@ -26,5 +26,9 @@ RequestKept Boot old new = ⊤
 RequestKept Fill old new = ⊤
 RequestKept was old new = request_of new ≡ request_of old
 
+-- each of the three is stored to as it may be
 abbrev pub MailboxKept : PhaseKind → PhaseKind → BusState → BusState → Type 0
-MailboxKept was now old new = TohostKept was now (dword old tohost) (dword new tohost) × FromhostKept was (dword old fromhost) (dword new fromhost) × RequestKept was old new
+MailboxKept was now old new =
+    TohostKept was now (dword old tohost) (dword new tohost)
+    × FromhostKept was (dword old fromhost) (dword new fromhost)
+    × RequestKept was old new

@@ -1,4 +1,5 @@
--- How many steps the kernel has left at most in a call, in a message or at the start, and that each step lowers the number, but where the kernel waits for its host, the program runs, or a next byte is begun.
+-- How many steps the kernel has left at most in a call, in a message or at the start, and that each step lowers the
+-- number, but where the kernel waits for its host, the program runs, or a next byte is begun.
 use Rattle.std.specs.Prelude.{◌≡◌, ℕ, ◌+◌, ◌-◌, ◌≤◌, ◌<◌, ◌==◌, not, Bool, true, false, if◌then◌else◌, List, slice_index}
 use Rattle.rv_hart.specs.HartStep.{HartState}
 use Rattle.kernel_code.specs.Places.{pc_boot_test, pc_wait_test, pc_put_test, pc_closing_test, pc_idle}
@@ -28,7 +29,8 @@ goes_back pc registers =
     else if pc == pc_closing_test then not (slice_index registers 6 == 0)
     else false
 
--- the steps left at a place of the kernel: one fewer at the load of a word that has come, and two more at a test that leads back to the load
+-- the steps left at a place of the kernel: one fewer at the load of a word that has come, and two more at a test that
+-- leads back to the load
 abbrev pub left_here : Bool → ℕ → List ℕ → ℕ
 left_here waiting pc registers =
     if loads_word pc then (if waiting then left_at pc else left_at pc - 1)
@@ -44,7 +46,9 @@ left_in kind left = left
 abbrev pub steps_left : HartState → Phase → ℕ
 steps_left hart p = left_in p.kind (left_here (is_waiting p) hart.pc hart.registers)
 
--- a step lowers the number, or is one of the program, after which there are at most 400, or waits and does not raise it, or begins a byte of a path, which adds at most 15, or one of a message, behind which there are at most 399, or is made at the last place
+-- a step lowers the number, or is one of the program, after which there are at most 400, or waits and does not raise
+-- it, or begins a byte of a path, which adds at most 15, or one of a message, behind which there are at most 399, or is
+-- made at the last place
 pub data Progress (p : Phase) (old : HartState) (q : Phase) (new : HartState) : Type 0 where
   Lowers : steps_left new q < steps_left old p → Progress p old q new
   Runs : p.kind ≡ User → steps_left new q ≤ 400 → Progress p old q new

@@ -16,14 +16,17 @@ loaded_at pc = pc == pc_put_test || pc == pc_closing_test
 abbrev pub stores_at : ℕ → Bool
 stores_at pc = pc == pc_put_store || pc == pc_closing_store
 
+-- what a place needs of TOHOST: nothing; that it is 0 where x6, which holds what was seen of it, is 0; that it is 0
 pub data Need : Type 0 where
   Nothing : Need
   ZeroIfSeen : Need
   Zero : Need
 
+-- the need of a place of the kernel
 abbrev pub need_at : ℕ → Need
 need_at pc = elim (loaded_at pc) [ true ↦ ZeroIfSeen | false ↦ elim (stores_at pc) [ true ↦ Zero | false ↦ Nothing ] ]
 
+-- the same by the mode: none while the program runs
 abbrev pub need : Mode → ℕ → Need
 need mode.User pc = Nothing
 need mode.Machine pc = need_at pc

@@ -23,7 +23,8 @@ abbrev pub mode_of : PhaseKind → Mode
 mode_of User = mode.User
 mode_of _ = mode.Machine
 
--- every phase: the hart runs, in the mode of the phase; the code is the image; TOHOST, FROMHOST and REQUEST hold the fields of those names; in User, and where nothing is asked or told, the first two hold 0
+-- every phase: the hart runs, in the mode of the phase; the code is the image; TOHOST, FROMHOST and REQUEST hold the
+-- fields of those names; in User, and where nothing is asked or told, the first two hold 0
 pub record InEvery (p : Phase) (sys : System) : Type 0 where
   pub running : sys.hart.run ≡ Running
   pub mode_is : sys.hart.mode ≡ mode_of p.kind
@@ -65,16 +66,21 @@ InFrame p sys = (n : ℕ) → 0 < n → n < 32 → in_frame sys.bus n ≡ slice_
 
 -- each register of the program is in its own place in the hart, in mscratch or in FRAME
 abbrev pub IsSaved : Phase → System → Type 0
-IsSaved p sys = (n : ℕ) → 0 < n → n < 32 → (slice_index sys.hart.registers n ≡ slice_index p.user.regs n) ⊎ ((sys.hart.csrs.mscratch ≡ slice_index p.user.regs n) ⊎ (in_frame sys.bus n ≡ slice_index p.user.regs n))
+IsSaved p sys =
+    (n : ℕ) → 0 < n → n < 32
+    → (slice_index sys.hart.registers n ≡ slice_index p.user.regs n)
+    ⊎ ((sys.hart.csrs.mscratch ≡ slice_index p.user.regs n) ⊎ (in_frame sys.bus n ≡ slice_index p.user.regs n))
 
 -- each register of the program is restored or in FRAME; a0 is the answer
 pub record IsRestored (p : Phase) (sys : System) : Type 0 where
-  pub each : (n : ℕ) → 0 < n → n < 32 → (slice_index sys.hart.registers n ≡ slice_index p.user.regs n) ⊎ (in_frame sys.bus n ≡ slice_index p.user.regs n)
+  pub each : (n : ℕ) → 0 < n → n < 32
+      → (slice_index sys.hart.registers n ≡ slice_index p.user.regs n)
+      ⊎ (in_frame sys.bus n ≡ slice_index p.user.regs n)
   pub answer : slice_index sys.hart.registers 10 ≡ slice_index p.user.regs 10
 
 -- ---- the trap
 -- the message tells the trap that the hart took, which is no call
-pub record IsTold (p : Phase) (sys : System) : Type 0 where
+pub record TellsTrap (p : Phase) (sys : System) : Type 0 where
   pub no_call : sys.hart.csrs.mcause ≢ 8
   pub counter_is : p.text.counter ≡ ((sys.hart.csrs.mcause == 2) && is_counter_access sys.hart.csrs.mtval)
   pub cause_is : p.text.cause ≡ sys.hart.csrs.mcause
@@ -82,8 +88,8 @@ pub record IsTold (p : Phase) (sys : System) : Type 0 where
   pub value_is : p.text.value ≡ sys.hart.csrs.mtval
 
 -- a call, or a trap that the message tells and of which nothing was posted
-abbrev pub IsCallOrTold : Phase → System → Type 0
-IsCallOrTold p sys = (sys.hart.csrs.mcause ≡ 8) ⊎ (IsTold p sys × (p.text.posted ≡ 0))
+abbrev pub IsCallOrTrap : Phase → System → Type 0
+IsCallOrTrap p sys = (sys.hart.csrs.mcause ≡ 8) ⊎ (TellsTrap p sys × (p.text.posted ≡ 0))
 
 -- a call of the program, whose registers FRAME holds
 pub record InCall (p : Phase) (sys : System) : Type 0 where
@@ -101,7 +107,9 @@ IsAnswer p user answer = (call_part p user ≡ gives answer) ⊎ (call_part p us
 
 -- byte k of the path that a1 points to is a user byte and no NUL
 abbrev pub IsPathByte : Phase → List ℕ → ℕ → Type 0
-IsPathByte p user k = (is_user ((slice_index p.user.regs 11 + k) % 2 ^ 64) ≡ true) × ((user_byte user ((slice_index p.user.regs 11 + k) % 2 ^ 64) == 0) ≡ false)
+IsPathByte p user k =
+    (is_user ((slice_index p.user.regs 11 + k) % 2 ^ 64) ≡ true)
+    × ((user_byte user ((slice_index p.user.regs 11 + k) % 2 ^ 64) == 0) ≡ false)
 
 -- the request that the kernel posts before the program starts: the main vars, at 0x0100_0000, of at most 65,536 bytes
 abbrev pub boot_request : List ℕ
@@ -116,8 +124,8 @@ Row BootWait p sys = slice_set p.request 0 2011 ≡ boot_request
 Row BootTake p sys = ⊤
 Row Leave p sys = ⊤
 Row User p sys = (sys.hart.pc ≡ p.user.pc) × (sys.hart.registers ≡ p.user.regs)
-Row Save p sys = (sys.hart.csrs.mepc ≡ p.user.pc) × IsSaved p sys × IsCallOrTold p sys
-Row Check p sys = (sys.hart.csrs.mepc ≡ p.user.pc) × InFrame p sys × IsCallOrTold p sys
+Row Save p sys = (sys.hart.csrs.mepc ≡ p.user.pc) × IsSaved p sys × IsCallOrTrap p sys
+Row Check p sys = (sys.hart.csrs.mepc ≡ p.user.pc) × InFrame p sys × IsCallOrTrap p sys
 -- the call has a path, of which so many bytes were passed, no more than a path has
 Row Scan p sys =
     InCall p sys
@@ -127,11 +135,16 @@ Row Scan p sys =
 -- the call posts a request
 Row Fill p sys = InCall p sys × ((words : List ℕ) × (call_part p sys.bus.user ≡ posts words))
 -- the request was posted, and only its first doubleword may differ since
-Row Wait p sys = InCall p sys × ((user : List ℕ) × (number : ℕ) × (call_part p user ≡ posts (slice_set p.request 0 number)))
+Row Wait p sys =
+    InCall p sys
+    × ((user : List ℕ) × (number : ℕ) × (call_part p user ≡ posts (slice_set p.request 0 number)))
 Row Take p sys = InCall p sys
 -- the kernel answers the call itself
 Row Local p sys = InCall p sys × ((answer : ℕ) × IsAnswer p sys.bus.user answer)
 -- the program's state has the answer in a0, and its pc stands behind the call, to which mepc moves on
-Row Restore p sys = (sys.hart.csrs.mcause ≡ 8) × ((sys.hart.csrs.mepc ≡ p.user.pc) ⊎ ((sys.hart.csrs.mepc + 4) % 2 ^ 64 ≡ p.user.pc)) × IsRestored p sys
-Row Speak p sys = IsTold p sys × (p.text.posted ≤ length (message p.text))
-Row Closing p sys = IsTold p sys × (p.text.posted ≡ length (message p.text))
+Row Restore p sys =
+    (sys.hart.csrs.mcause ≡ 8)
+    × ((sys.hart.csrs.mepc ≡ p.user.pc) ⊎ ((sys.hart.csrs.mepc + 4) % 2 ^ 64 ≡ p.user.pc))
+    × IsRestored p sys
+Row Speak p sys = TellsTrap p sys × (p.text.posted ≤ length (message p.text))
+Row Closing p sys = TellsTrap p sys × (p.text.posted ≡ length (message p.text))

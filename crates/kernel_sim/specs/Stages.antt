@@ -1,4 +1,6 @@
--- What holds in each phase.
+-- What is known in each phase beside the rows: at which place of the kernel's code the hart is, and what holds there in
+-- terms of the numbers at the program's trap. A phase has several stages, since more is known behind a load, behind its
+-- test, or behind a byte that was stored.
 use Rattle.std.specs.Prelude.{◌≡◌, ◌≢◌, ◌⊎◌, ℕ, ◌+◌, ◌-◌, ◌*◌, ◌%◌, ◌^◌, ◌<◌, ◌==◌, ◌&&◌, ⊤, nat_lt, Bool, true, false, if◌then◌else◌, List, [], ◌∷◌, length, slice_index}
 use Rattle.guest_memory.specs.Memory.{load}
 use Rattle.rv_decode.specs.Alignment.{instruction_alignment}
@@ -15,12 +17,14 @@ use Rattle.kernel_sim.specs.declared.phase.Spoken.{Spoken}
 use Rattle.kernel_steps.specs.States.{CodeIs}
 use Rattle.kernel_steps.specs.Blocks.{Here}
 use Rattle.kernel_code.specs.Kernel.{kernel, blocks}
-use Rattle.plain_machine.specs.KernelPart.{Part, gives, posts, scans, direct_part, with_path, settled, scan, user_byte, path_request}
+use Rattle.fe_base.specs.Limits.{greatest_break}
+use Rattle.fe_base.specs.declared.error_numbers.ErrNo.TheVariants.{EFAULT, ENOSYS, ENAMETOOLONG}
+use Rattle.plain_machine.specs.KernelPart.{Part, posts, scans, refused, direct_part, with_path, settled, scan, user_byte, path_request, greatest_path}
 use Rattle.plain_machine.specs.UserStep.{is_user}
 use Rattle.kernel_sim.specs.Phases.{message, dword, request_of}
 use Rattle.kernel_sim.specs.Mail.{mail_class, MailIs}
 use Rattle.kernel_sim.specs.Ready.{need, NeedIs}
-use Rattle.kernel_code.specs.Numbers.{counter_words, trap_words, saving_blocks, checking_blocks, starting_blocks, scanning_blocks, looked_blocks, passed_blocks, full_blocks, found_blocks, filling_blocks, waiting_blocks, tested_blocks, taking_blocks, outside_blocks, long_blocks, break_blocks, restoring_blocks, choosing_blocks, counter_end_blocks, trap_end_blocks, counter_idle_blocks, trap_idle_blocks, v_cause, v_value, v_pc, v_break, v_first_break, v_scanned, v_byte, v_word0, v_word1, v_word2, v_word3, v_word4, v_word5, v_length, v_fromhost, booting_blocks, boot_waiting_blocks, boot_tested_blocks, boot_taking_blocks, leaving_blocks, v_entry}
+use Rattle.kernel_code.specs.Numbers.{counter_words, trap_words, saving_blocks, checking_blocks, starting_blocks, scanning_blocks, looked_blocks, passed_blocks, full_blocks, found_blocks, filling_blocks, waiting_blocks, tested_blocks, taking_blocks, no_call_blocks, outside_blocks, long_blocks, break_blocks, restoring_blocks, choosing_blocks, counter_end_blocks, trap_end_blocks, counter_idle_blocks, trap_idle_blocks, v_cause, v_value, v_pc, v_break, v_first_break, v_scanned, v_byte, v_word0, v_word1, v_word2, v_word3, v_word4, v_word5, v_length, v_fromhost, booting_blocks, boot_waiting_blocks, boot_tested_blocks, boot_taking_blocks, leaving_blocks, v_entry}
 use Rattle.fe_base.specs.MemoryMap.{frame, tohost, fromhost, kernel_variables, boot}
 use Rattle.kernel_code.specs.Places.{pc_save, first_break_place, break_place}
 
@@ -49,6 +53,7 @@ pub data Stage : Type 0 where
   Ending : Bool → Stage
   Ended : Bool → Stage
 
+-- the kind of phase that a stage is part of
 abbrev pub stage_kind : Stage → PhaseKind
 stage_kind Saving = Save
 stage_kind Checking = Check
@@ -92,7 +97,7 @@ stage_number Filling = filling_blocks
 stage_number Waiting = waiting_blocks
 stage_number Tested = tested_blocks
 stage_number Taking = taking_blocks
-stage_number NoCall = 11
+stage_number NoCall = no_call_blocks
 stage_number Outside = outside_blocks
 stage_number Long = long_blocks
 stage_number Breaking = break_blocks
@@ -115,11 +120,13 @@ pub record Says (text : Spoken) (env : ℕ → ℕ) : Type 0 where
 abbrev pub direct : (ℕ → ℕ) → Part
 direct env = direct_part (env 17) (env 10) (env 11) (env 12) (env 13) (env v_break) (env v_first_break)
 
+-- and by its path, from a byte on, for so many bytes more
 abbrev pub path_scan : (ℕ → ℕ) → List ℕ → ℕ → ℕ → Part
 path_scan env user from more = settled (scan user (env 11) from more) (env 17) (env 10) (env 11) (env 12) (env 13)
 
+-- the whole kernel part
 abbrev pub part : (ℕ → ℕ) → List ℕ → Part
-part env user = with_path (direct env) (path_scan env user 0 4096)
+part env user = with_path (direct env) (path_scan env user 0 greatest_path)
 
 -- a call, or a trap that the message tells
 abbrev pub TrapIs : Phase → (ℕ → ℕ) → Type 0
@@ -132,8 +139,8 @@ Passed user env k = (is_user ((env 11 + k) % 2 ^ 64) ≡ true) × ((user_byte us
 -- so many path bytes were looked at, and the scan goes on there
 pub record ScanIs (user : List ℕ) (env : ℕ → ℕ) : Type 0 where
   pub has_path : direct env ≡ scans
-  pub goes_on : scan user (env 11) 0 4096 ≡ scan user (env 11) (env v_scanned) (4096 - env v_scanned)
-  pub below : env v_scanned < 4096
+  pub goes_on : scan user (env 11) 0 greatest_path ≡ scan user (env 11) (env v_scanned) (greatest_path - env v_scanned)
+  pub below : env v_scanned < greatest_path
   pub passed : (k : ℕ) → k < env v_scanned → Passed user env k
 
 -- the byte that was looked at last
@@ -141,40 +148,60 @@ pub record ByteIs (user : List ℕ) (env : ℕ → ℕ) : Type 0 where
   pub inside : is_user ((env 11 + env v_scanned) % 2 ^ 64) ≡ true
   pub byte_is : env v_byte ≡ user_byte user ((env 11 + env v_scanned) % 2 ^ 64)
 
+-- the kernel part of the call posts the request whose doublewords have these names
+abbrev pub asks : (ℕ → ℕ) → Part
+asks env =
+    posts (env v_word0 ∷ env v_word1 ∷ env v_word2 ∷ env v_word3 ∷ env v_word4 ∷ env v_word5 ∷ 0 ∷ 0 ∷ [])
+
 -- the request was posted by the kernel part of the call, over the user bytes of that moment
 abbrev pub WasAsked : (ℕ → ℕ) → Type 0
-WasAsked env = (old : List ℕ) × (part env old ≡ posts (env v_word0 ∷ env v_word1 ∷ env v_word2 ∷ env v_word3 ∷ env v_word4 ∷ env v_word5 ∷ 0 ∷ 0 ∷ []))
+WasAsked env = (old : List ℕ) × (part env old ≡ asks env)
 
+-- a message has fewer bytes than this
+abbrev pub bytes_limit : ℕ
+bytes_limit = 400
+
+-- what holds in a stage of the trap, the path, the request, the answer and the message
 abbrev pub Extra : Stage → Phase → List ℕ → (ℕ → ℕ) → Type 0
 Extra Saving p user env = TrapIs p env
 Extra Checking p user env = TrapIs p env
 Extra Starting p user env = (direct env ≡ scans) × (p.scanned ≡ 0)
 Extra Scanning p user env = ScanIs user env × (p.scanned ≡ env v_scanned)
 Extra Looked p user env = ScanIs user env × (p.scanned ≡ env v_scanned) × ByteIs user env
-Extra Past p user env = ScanIs user env × (p.scanned ≡ env v_scanned + 1) × ByteIs user env × ((env v_byte == 0) ≡ false)
-Extra Full p user env = ScanIs user env × (p.scanned ≡ env v_scanned + 1) × ByteIs user env × ((env v_byte == 0) ≡ false)
-Extra Found p user env = (direct env ≡ scans) × (part env user ≡ posts (path_request (env 17) (env 10) (env 11) (env v_length) (env 12) (env 13)))
-Extra Filling p user env = part env user ≡ posts (env v_word0 ∷ env v_word1 ∷ env v_word2 ∷ env v_word3 ∷ env v_word4 ∷ env v_word5 ∷ 0 ∷ 0 ∷ [])
+Extra Past p user env =
+    ScanIs user env × (p.scanned ≡ env v_scanned + 1) × ByteIs user env × ((env v_byte == 0) ≡ false)
+Extra Full p user env =
+    ScanIs user env × (p.scanned ≡ env v_scanned + 1) × ByteIs user env × ((env v_byte == 0) ≡ false)
+Extra Found p user env =
+    (direct env ≡ scans)
+    × (part env user ≡ posts (path_request (env 17) (env 10) (env 11) (env v_length) (env 12) (env 13)))
+Extra Filling p user env = part env user ≡ asks env
 Extra Waiting p user env = WasAsked env
 Extra Tested p user env = WasAsked env × (env v_fromhost ≢ 0 → p.fromhost ≢ 0)
 Extra Taking p user env = WasAsked env
-Extra NoCall p user env = (part env user ≡ gives (2 ^ 64 - 38)) × (env 17 ≢ 214)
-Extra Outside p user env = (part env user ≡ gives (2 ^ 64 - 14)) × (env 17 ≢ 214)
-Extra Long p user env = (part env user ≡ gives (2 ^ 64 - 36)) × (env 17 ≢ 214)
+Extra NoCall p user env = (part env user ≡ refused ENOSYS) × (env 17 ≢ 214)
+Extra Outside p user env = (part env user ≡ refused EFAULT) × (env 17 ≢ 214)
+Extra Long p user env = (part env user ≡ refused ENAMETOOLONG) × (env 17 ≢ 214)
 Extra Breaking p user env = env 17 ≡ 214
 Extra Restoring p user env = ⊤
 Extra Choosing p user env = Says p.text env × (p.text.posted ≡ 0)
-Extra (Saying c t) p user env = Says p.text env × (p.text.counter ≡ c) × (p.text.posted ≡ t) × (t < 400)
-Extra (Said c t) p user env = Says p.text env × (p.text.counter ≡ c) × (p.text.posted ≡ t + 1) × (t + 1 < 400)
+Extra (Saying c t) p user env = Says p.text env × (p.text.counter ≡ c) × (p.text.posted ≡ t) × (t < bytes_limit)
+Extra (Said c t) p user env = Says p.text env × (p.text.counter ≡ c) × (p.text.posted ≡ t + 1) × (t + 1 < bytes_limit)
 Extra (Ending c) p user env = Says p.text env × (p.text.counter ≡ c) × (p.text.posted ≡ length (message p.text))
 Extra (Ended c) p user env = Says p.text env × (p.text.counter ≡ c) × (p.text.posted ≡ length (message p.text))
 
+-- the program's pc is that of the trap, and behind the call while its registers are restored
 abbrev pub PcIs : Stage → UserState → (ℕ → ℕ) → Type 0
 PcIs Restoring u env = u.pc ≡ (env v_pc + 4) % 2 ^ 64
 PcIs _ u env = u.pc ≡ env v_pc
 
+-- the break is that of the trap, but in a call of brk, which may have moved it
 abbrev pub BreakIs : Stage → UserState → (ℕ → ℕ) → Type 0
-BreakIs Breaking u env = (u.brk ≡ env v_break) ⊎ ((u.brk ≡ env 10) × (nat_lt (env 10) (env v_first_break) ≡ false) × (nat_lt 15728640 (env 10) ≡ false))
+BreakIs Breaking u env =
+    (u.brk ≡ env v_break)
+    ⊎ ((u.brk ≡ env 10)
+    × (nat_lt (env 10) (env v_first_break) ≡ false)
+    × (nat_lt greatest_break (env 10) ≡ false))
 BreakIs _ u env = u.brk ≡ env v_break
 
 -- a call's cause is 8 behind the test of it, and that of a message is another
@@ -217,6 +244,7 @@ pub data BootStage : Type 0 where
   BootTaking : BootStage
   Leaving : BootStage
 
+-- the kind of phase that such a part is in
 abbrev pub boot_kind : BootStage → PhaseKind
 boot_kind Booting = Boot
 boot_kind BootWaiting = BootWait
@@ -224,6 +252,7 @@ boot_kind BootTested = BootWait
 boot_kind BootTaking = BootTake
 boot_kind Leaving = Leave
 
+-- the number of its blocks
 abbrev pub boot_number : BootStage → ℕ
 boot_number Booting = booting_blocks
 boot_number BootWaiting = boot_waiting_blocks
@@ -231,10 +260,12 @@ boot_number BootTested = boot_tested_blocks
 boot_number BootTaking = boot_taking_blocks
 boot_number Leaving = leaving_blocks
 
+-- behind Boot the break and the first break are the first break that the boot block tells
 abbrev pub BootBreak : BootStage → UserState → (ℕ → ℕ) → Type 0
 BootBreak Booting u env = ⊤
 BootBreak _ u env = (u.brk ≡ env v_first_break) × (u.first_break ≡ env v_first_break)
 
+-- where FROMHOST was loaded and was not 0, it is not 0
 abbrev pub BootSeen : BootStage → Phase → (ℕ → ℕ) → Type 0
 BootSeen BootTested p env = env v_fromhost ≢ 0 → p.fromhost ≢ 0
 BootSeen _ p env = ⊤
@@ -274,6 +305,7 @@ Place BootTake p sys = InBoot BootTake p sys
 Place Leave p sys = InBoot Leave p sys
 Place k p sys = InKernel k p sys
 
+-- what is known at the place, and the phase's fields of the mailbox
 pub record HoldsAs (kind : PhaseKind) (p : Phase) (sys : System) : Type 0 where
   pub tohost_is : p.tohost ≡ dword sys.bus tohost
   pub fromhost_is : p.fromhost ≡ dword sys.bus fromhost
@@ -287,4 +319,8 @@ BreaksAre _ p sys = (p.user.brk ≡ dword sys.bus kernel_variables) × (p.user.f
 
 -- what is known in a phase
 unfoldable pub Known : Phase → System → Type 0
-Known p sys = HoldsAs p.kind p sys × MailIs (mail_class p.kind) p.tohost p.fromhost × NeedIs (need sys.hart.mode sys.hart.pc) (slice_index sys.hart.registers 6) p.tohost × BreaksAre p.kind p sys
+Known p sys =
+    HoldsAs p.kind p sys
+    × MailIs (mail_class p.kind) p.tohost p.fromhost
+    × NeedIs (need sys.hart.mode sys.hart.pc) (slice_index sys.hart.registers 6) p.tohost
+    × BreaksAre p.kind p sys

@@ -19,7 +19,10 @@ exit_word text = (2 * exit_status text + 1) % 2 ^ 64
 
 -- the word of the next byte, into TOHOST, which held 0
 abbrev pub NextByte : Phase → ℕ → ℕ → Type 0
-NextByte p tohost posted = (p.tohost ≡ 0) × (tohost ≡ console_word (slice_index (message p.text) p.text.posted)) × (posted ≡ p.text.posted + 1)
+NextByte p tohost posted =
+    (p.tohost ≡ 0)
+    × (tohost ≡ console_word (slice_index (message p.text) p.text.posted))
+    × (posted ≡ p.text.posted + 1)
 
 -- TOHOST stays, and so does what was posted
 abbrev pub NoByte : Phase → ℕ → ℕ → Type 0
@@ -27,14 +30,16 @@ NoByte p tohost posted = (tohost ≡ p.tohost) × (posted ≡ p.text.posted)
 
 -- the exit word, into TOHOST, which held 0; the hart then stands at its last place
 abbrev pub ExitWord : Phase → HartState → HartState → ℕ → Type 0
-ExitWord p old new tohost = (p.tohost ≡ 0) × (tohost ≡ exit_word p.text) × (old.pc ≡ pc_closing_store) × (new.pc ≡ pc_idle)
+ExitWord p old new tohost =
+    (p.tohost ≡ 0) × (tohost ≡ exit_word p.text) × (old.pc ≡ pc_closing_store) × (new.pc ≡ pc_idle)
 
 -- TOHOST stays; the hart stays at its last place where it stands there, and does not come to it
 abbrev pub NoExit : Phase → HartState → HartState → ℕ → Type 0
 NoExit p old new tohost =
     (tohost ≡ p.tohost) × (old.pc ≡ pc_idle → new.pc ≡ pc_idle) × (new.pc ≡ pc_idle → old.pc ≡ pc_idle)
 
--- by kind: in Speak at most the next byte, and never the last place; in Closing at most the exit word, whose store alone leads to the last place
+-- by kind: in Speak at most the next byte, and never the last place; in Closing at most the exit word, whose store
+-- alone leads to the last place
 abbrev pub Stores : PhaseKind → Phase → HartState → HartState → Phase → Type 0
 Stores Speak p old new q =
     (NoByte p q.tohost q.text.posted ⊎ NextByte p q.tohost q.text.posted) × (new.pc ≢ pc_idle)

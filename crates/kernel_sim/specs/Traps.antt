@@ -1,4 +1,5 @@
--- What the control and status registers of a trap hold, in which the program's call or trap stands while the kernel handles it.
+-- What the control and status registers of a trap hold, in which the program's call or trap stands while the kernel
+-- handles it.
 use Rattle.std.specs.Prelude.{◌≡◌, ◌≢◌, ◌⊎◌, ℕ}
 use Rattle.rv_alu.specs.Causes.{cause_number}
 use Rattle.rv_alu.specs.declared.causes.Cause.{Cause}
@@ -24,7 +25,8 @@ TrapTold old new =
 abbrev pub CauseKept : CsrState → CsrState → Type 0
 CauseKept old new = (new.mcause ≡ old.mcause) × (new.mtval ≡ old.mtval)
 
--- by kind: a call or a trap of the program sets the three; else mcause and mtval stay, and so does mepc, but in Leave and Restore, which write it
+-- by kind: a call or a trap of the program sets the three; else mcause and mtval stay, and so does mepc, but in Leave
+-- and Restore, which write it
 abbrev pub TrapAfter : PhaseKind → PhaseKind → System → System → Type 0
 TrapAfter User Save old new = TrapTold old new × (new.hart.csrs.mepc ≡ old.hart.pc)
 TrapAfter Leave now old new = CauseKept old.hart.csrs new.hart.csrs

@@ -8,7 +8,7 @@ use Rattle.rv_alu.specs.declared.causes.Cause.TheVariants.{UserCall}
 use Rattle.rv_hart.specs.HartStep as hart
 use Rattle.rv_hart.specs.HartStep.{System, SystemStep, over, instruction_step, after_step, counted_step, hart_step}
 use Rattle.rv_hart.specs.declared.debug.Run.TheVariants.{Running}
-use Rattle.plain_machine.specs.UserStep.{UserState, UserStep, next, call, trap, user_step}
+use Rattle.plain_machine.specs.UserStep.{UserState as ProgramState, UserStep, next, call, trap, user_step}
 
 -- an entry that is OFF and ends where the user area begins, and one from there to the user area's end, for loads,
 -- stores and fetches
@@ -34,11 +34,11 @@ KernelFences = (csrs : CsrState)
     → IsSomeAnd (and_written 0x3a0 0x0f00 (and_written 0x3b1 0x404000 (and_written 0x3b0 0x4000 (Some csrs)))) IsFenced
 
 -- what a user program sees of a hart over its bus
-abbrev pub user_of : System → UserState
+abbrev pub user_of : System → ProgramState
 user_of system = record { pc = system.hart.pc; registers = system.hart.registers; user = system.bus.user }
 
 -- the system with what a user program sees of it
-abbrev pub with_user : UserState → System → System
+abbrev pub with_user : ProgramState → System → System
 with_user state system =
     record {
       hart = record system.hart { pc = state.pc; registers = state.registers };

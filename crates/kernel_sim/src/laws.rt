@@ -27,7 +27,8 @@ pub fn host_writes_hold()
     ensures { HostWritesHold }
 {}
 
-/// Each step of the kernel lowers the number of steps left, but for a wait that goes on, a byte that is put or passed, and those
+/// Each step of the kernel lowers the number of steps left, but for a wait that goes on, a byte that is put or passed,
+/// and those
 /// behind the exit word.
 pub fn steps_lower()
     ensures { StepsLower }

@@ -118,7 +118,7 @@ fn answered(answer: u64, user: UserState) -> UserState
 // The program's registers and break after a step into a kind.
 fn user_after(hart: &Hart, bus: &Bus, was: PhaseKind, now: PhaseKind, user: UserState) -> UserState
     requires { IsHart hart.now }
-    ensures { result ≡ spec.user_by was now user (over bus.now hart.now) }
+    ensures { result ≡ spec.user_after was now user (over bus.now hart.now) }
 {
     match (was, now) {
         (PhaseKind::Boot, PhaseKind::BootWait) => UserState {
@@ -154,7 +154,7 @@ fn user_after(hart: &Hart, bus: &Bus, was: PhaseKind, now: PhaseKind, user: User
 
 // The message after a step into a kind.
 fn text_after(hart: &Hart, was: PhaseKind, now: PhaseKind, phase: Phase) -> Spoken
-    ensures { result ≡ spec.text_in was now phase hart.now }
+    ensures { result ≡ spec.text_after was now phase hart.now }
 {
     match (was, now) {
         (PhaseKind::User, PhaseKind::Save) => {
@@ -186,7 +186,7 @@ fn text_after(hart: &Hart, was: PhaseKind, now: PhaseKind, phase: Phase) -> Spok
 
 // The path bytes that were passed, after a step into a kind.
 fn scanned_after(was: PhaseKind, now: PhaseKind, scanned: u32, pc: u64) -> u32
-    ensures { result ≡ spec.scanned_by was now scanned pc }
+    ensures { result ≡ spec.scanned_after was now scanned pc }
 {
     match (was, now) {
         (PhaseKind::Scan, PhaseKind::Scan) => {
