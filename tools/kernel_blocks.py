@@ -8,6 +8,7 @@ stand. It walks through the code from the states in `seeds`, as the symbolic ste
 """
 import os
 import sys
+import textwrap
 
 sys.path.insert(0, os.path.dirname(__file__))
 import kernel_words  # noqa: E402
@@ -656,13 +657,13 @@ followers a =
 
     def left(self):
         table = steps_left(self.kernel, self.walk)
-        rows = "".join("    " + " ∷ ".join(str(n) for n in table[i:i + 24]) + " ∷\n" for i in range(0, len(table), 24))
+        rows = "".join("    " + " ∷ ".join(str(n) for n in table[i:i + 18]) + " ∷\n" for i in range(0, len(table), 18))
         tests = " ||\n    ".join(f"(a == pc_{x} && b == pc_{y})" for x, y in LEFT_OUT)
         loads = " || ".join(f"pc == pc_{x}" for x, _ in WAITS)
         looks = " || ".join(f"pc == pc_{x}" for _, x in WAITS)
-        names = sorted({x for pair in LEFT_OUT + WAITS for x in pair} | {"save"})
+        names = sorted({x for pair in LEFT_OUT + WAITS for x in pair})
         text = f"-- How many steps are left at each place of the code. {BY}\n"
-        text += "use Rattle.std.specs.Prelude.{ℕ, ◌+◌, ◌-◌, ◌/◌, ◌==◌, ◌&&◌, ◌||◌, not, nat_lt, nat_le, Bool, true, false, Option, Some, None, List, [], ◌∷◌, get_or}\n"
+        text += "use Rattle.std.specs.Prelude.{ℕ, ◌+◌, ◌-◌, ◌/◌, ◌==◌, ◌&&◌, ◌||◌, not, nat_lt, Bool, true, false, Option, Some, None, List, [], ◌∷◌, get_or}\n"
         text += "use Rattle.fe_base.specs.MemoryMap.{kernel_start}\nuse Rattle.kernel_steps.specs.States.{State}\n"
         text += "use Rattle.kernel_steps.specs.Successors.{successors}\nuse Rattle.kernel_code.specs.Kernel.{kernel}\n"
         text += "use Rattle.kernel_code.specs.Places.{" + ", ".join(f"pc_{n}" for n in names) + "}\n"
@@ -689,12 +690,8 @@ may_end None a = true
 
 -- a step from a place of a block lowers the number of steps left, but for those that are left out, and those of a wait
 abbrev pub lowers : ℕ → State → Bool
-lowers number state = elim (loads_word state.at || tests_word state.at) [ true ↦ true | false ↦ may_end (successors kernel state) state.at ]
-
--- the bounds: a call or a trap, behind a byte that was put, behind a byte of a path that was passed, and from reset
-abbrev pub are_bounds : Bool
-are_bounds =
-    nat_le (left_at pc_save) 400 && (nat_le (left_at pc_put_done) 399 && (nat_le (left_at pc_path_passed) (left_at pc_path_test + 15) && nat_le (left_at kernel_start) 400))
+lowers number state =
+    elim (loads_word state.at || tests_word state.at) [ true ↦ true | false ↦ may_end (successors kernel state) state.at ]
 """
         return text
 
@@ -728,11 +725,11 @@ b kind at regs csrs cells facts size checked =
     record { kind = kind; start = record { at = at; regs = regs; csrs = csrs; cells = cells; facts = facts }; size = size; checked = checked }
 """
         for terms, name in self.cells.items():
-            text += f"\nunfoldable pub {name} : List Term\n{name} = {listed(terms)}\n"
+            text += f"\n-- what some blocks know of the doublewords behind the code\nunfoldable pub {name} : List Term\n{name} = {listed(terms)}\n"
         entry = lambda e: f"record {{ read = {truth(e[0])}; write = {truth(e[1])}; execute = {truth(e[2])}; tor = {truth(e[3])}; end = {e[4]:#x} }}"
         for key, name in self.csrs.items():
             fields = "; ".join(f"{k} = {show(t)}" for k, t in zip(("scratch", "epc", "cause", "tval", "tvec"), key))
-            text += f"\nunfoldable pub {name} : CsrTerms\n{name} =\n    record {{ {fields}; pmp = record {{ entry0 = {entry(key[5][0])}; entry1 = {entry(key[5][1])} }} }}\n"
+            text += f"\n-- what some blocks know of control and status registers\nunfoldable pub {name} : CsrTerms\n{name} =\n    record {{ {fields}; pmp = record {{ entry0 = {entry(key[5][0])}; entry1 = {entry(key[5][1])} }} }}\n"
         return text
 
     def lists(self):
@@ -759,8 +756,17 @@ b kind at regs csrs cells facts size checked =
             if numbers:
                 head += f"use Rattle.kernel_code.specs.Numbers.{{{', '.join(numbers)}}}\n"
             head += f"use Rattle.kernel_code.specs.Shorthand.{{{', '.join(short + names)}}}\n"
-            texts[module] = f"{head}\nunfoldable pub {name} : List Block\n{name} =\n{body}    []\n"
+            texts[module] = f"{head}\n-- by kind, place, what is known there, and size\nunfoldable pub {name} : List Block\n{name} =\n{body}    []\n"
         return texts
+
+
+def wrapped(text):
+    """A text whose comment lines have at most 120 columns."""
+    out = []
+    for line in text.split("\n"):
+        mark = next((m for m in ("/// ", "// ", "-- ") if line.startswith(m)), None)
+        out += textwrap.wrap(line, 120, subsequent_indent=mark, break_long_words=False, break_on_hyphens=False) if mark and len(line) > 120 else [line]
+    return "\n".join(out)
 
 
 def texts():
@@ -773,7 +779,7 @@ def texts():
     written["specs/Shorthand.antt"] = writer.known()
     written["specs/StepsLeft.antt"] = writer.left()
     written.update({f"specs/{module}.antt": text for module, text in lists.items()})
-    return written
+    return {path: wrapped(text) for path, text in written.items()}
 
 
 def main():

@@ -6,6 +6,7 @@ use Rattle.kernel_steps.specs.Blocks.{Block}
 use Rattle.kernel_code.specs.Numbers.{booting_blocks, boot_waiting_blocks, boot_taking_blocks, leaving_blocks, saving_blocks, checking_blocks, scanning_blocks, filling_blocks, waiting_blocks, taking_blocks, no_call_blocks, restoring_blocks, choosing_blocks, first_byte_gate, next_byte_gate, path_gate, path_end_gate, path_long_gate, path_outside_gate, buffer_gate, no_call_gate, break_gate, request_gate, path_request_gate, answer_gate, taken_gate, no_call_done_gate, trap_words_gate, counter_words_gate, outside_blocks, long_blocks, break_blocks, outside_done_gate, long_done_gate, break_done_gate, looked_blocks, passed_blocks, found_blocks, trap_end_blocks, counter_end_blocks, trap_idle_blocks, counter_idle_blocks, starting_blocks, full_blocks, tested_blocks, boot_tested_blocks}
 use Rattle.kernel_code.specs.Shorthand.{A, v, l, f, b, cells_0, cells_1, cells_2, cells_3, cells_4, cells_5, cells_6, cells_7, cells_8, cells_9, csrs_0, csrs_1, csrs_2}
 
+-- by kind, place, what is known there, and size
 unfoldable pub call_blocks : List Block
 call_blocks =
     b booting_blocks 0x80000000 (l 0 ∷ l 0 ∷ l 0 ∷ l 0 ∷ l 0 ∷ l 0 ∷ l 0 ∷ l 0 ∷ l 0 ∷ l 0 ∷ l 0 ∷ l 0 ∷ l 0 ∷ l 0 ∷ l 0 ∷ l 0 ∷ l 0 ∷ l 0 ∷ l 0 ∷ l 0 ∷ l 0 ∷ l 0 ∷ l 0 ∷ l 0 ∷ l 0 ∷ l 0 ∷ l 0 ∷ l 0 ∷ l 0 ∷ l 0 ∷ l 0 ∷ l 0 ∷ []) csrs_0 cells_0 ([]) 22 true ∷

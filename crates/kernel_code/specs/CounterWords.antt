@@ -6,6 +6,7 @@ use Rattle.kernel_steps.specs.Blocks.{Block}
 use Rattle.kernel_code.specs.Numbers.{counter_words, counter_last_blocks, counter_store_gates}
 use Rattle.kernel_code.specs.Shorthand.{A, v, l, b, cells_3, csrs_2}
 
+-- by kind, place, what is known there, and size
 unfoldable pub counter_blocks : List Block
 counter_blocks =
     b counter_words 0x8000035c (l 0 ∷ A ∷ A ∷ A ∷ A ∷ v 40 ∷ A ∷ A ∷ A ∷ A ∷ A ∷ A ∷ A ∷ A ∷ A ∷ A ∷ A ∷ A ∷ A ∷ A ∷ A ∷ v 32 ∷ v 42 ∷ A ∷ A ∷ A ∷ A ∷ A ∷ A ∷ A ∷ l 0x101000000000000 ∷ l 0x80008100 ∷ []) csrs_2 cells_3 ([]) 3 true ∷

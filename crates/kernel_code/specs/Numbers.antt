@@ -1,4 +1,5 @@
--- Numbers of the kernel's blocks and of the variables in their terms, under names. A gate is a block of one place, where what is known changes its terms. Written by tools/kernel_blocks.py.
+-- Numbers of the kernel's blocks and of the variables in their terms, under names. A gate is a block of one place,
+-- where what is known changes its terms. Written by tools/kernel_blocks.py.
 use Rattle.std.specs.Prelude.{ℕ}
 
 -- ---- blocks

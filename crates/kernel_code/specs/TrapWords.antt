@@ -6,6 +6,7 @@ use Rattle.kernel_steps.specs.Blocks.{Block}
 use Rattle.kernel_code.specs.Numbers.{trap_words, trap_last_blocks}
 use Rattle.kernel_code.specs.Shorthand.{A, v, l, b, cells_3, csrs_2}
 
+-- by kind, place, what is known there, and size
 unfoldable pub trap_blocks : List Block
 trap_blocks =
     b trap_words 0x80000410 (l 0 ∷ A ∷ A ∷ A ∷ A ∷ v 40 ∷ A ∷ A ∷ A ∷ A ∷ A ∷ A ∷ A ∷ A ∷ A ∷ A ∷ A ∷ A ∷ A ∷ A ∷ A ∷ v 32 ∷ v 42 ∷ A ∷ A ∷ A ∷ A ∷ A ∷ A ∷ A ∷ l 0x101000000000000 ∷ l 0x80008100 ∷ []) csrs_2 cells_3 ([]) 4 true ∷

@@ -1,4 +1,5 @@
-// The addresses of the kernel's code at which a phase begins, or of which a phase speaks. Written by tools/kernel_blocks.py.
+// The addresses of the kernel's code at which a phase begins, or of which a phase speaks. Written by
+// tools/kernel_blocks.py.
 
 /// The load of FROMHOST while the first request waits.
 pub const BOOT_WAIT: u64 = 0x8000_005c;

@@ -1,4 +1,5 @@
--- A code as blocks, straight runs of it, and the tests that tell that each block leads to others. Where a test goes by two parts, the second is computed only where the first holds.
+-- A code as blocks, straight runs of it, and the tests that tell that each block leads to others. Where a test goes by
+-- two parts, the second is computed only where the first holds.
 use Rattle.std.specs.Prelude.{◌≡◌, ℕ, zero, suc, ◌==◌, ◌&&◌, ◌⊎◌, Bool, true, false, Option, Some, None, List, [], ◌∷◌}
 use Rattle.rv_alu.specs.declared.arithmetic.AluOp.{AluOp}
 use Rattle.rv_alu.specs.declared.arithmetic.AluOp.TheVariants as op
@@ -65,7 +66,9 @@ all_facts fs (g ∷ gs) = elim (has_fact g fs) [ true ↦ all_facts fs gs | fals
 
 -- two entries of the PMP are the same
 abbrev pub same_entry : PmpEntry → PmpEntry → Bool
-same_entry p q = same_bool p.read q.read && same_bool p.write q.write && same_bool p.execute q.execute && same_bool p.tor q.tor && (p.end == q.end)
+same_entry p q =
+    same_bool p.read q.read && same_bool p.write q.write && same_bool p.execute q.execute && same_bool p.tor q.tor
+    && (p.end == q.end)
 
 -- two PMPs are the same
 abbrev pub same_pmp : PmpState → PmpState → Bool
@@ -73,13 +76,28 @@ same_pmp p q = same_entry p.entry0 q.entry0 && same_entry p.entry1 q.entry1
 
 -- the second says no more than the first of each control and status register
 abbrev pub weaker_csrs : CsrTerms → CsrTerms → Bool
-weaker_csrs s t = weaker s.scratch t.scratch && weaker s.epc t.epc && weaker s.cause t.cause && weaker s.tval t.tval && weaker s.tvec t.tvec && same_pmp s.pmp t.pmp
+weaker_csrs s t =
+    weaker s.scratch t.scratch && weaker s.epc t.epc && weaker s.cause t.cause && weaker s.tval t.tval
+    && weaker s.tvec t.tvec && same_pmp s.pmp t.pmp
 
 -- the second state says no more than the first
 abbrev pub implies : State → State → Bool
-implies s t = elim (s.at == t.at) [ true ↦ elim (all_weaker s.regs t.regs) [ true ↦ elim (weaker_csrs s.csrs t.csrs) [ true ↦ elim (all_weaker s.cells t.cells) [ true ↦ all_facts s.facts t.facts | false ↦ false ] | false ↦ false ] | false ↦ false ] | false ↦ false ]
+implies s t =
+    elim (s.at == t.at) [
+      | true ↦
+          elim (all_weaker s.regs t.regs) [
+            | true ↦
+                elim (weaker_csrs s.csrs t.csrs) [
+                  | true ↦ elim (all_weaker s.cells t.cells) [ true ↦ all_facts s.facts t.facts | false ↦ false ]
+                  | false ↦ false
+                ]
+            | false ↦ false
+          ]
+      | false ↦ false
+    ]
 
--- a straight run of the code: its kind, what is known where it starts, and how many steps go on from there to one place each; where it is checked, the step behind them leads to blocks, and else that step is left open
+-- a straight run of the code: its kind, what is known where it starts, and how many steps go on from there to one place
+-- each; where it is checked, the step behind them leads to blocks, and else that step is left open
 pub record Block : Type 0 where
   pub kind : ℕ
   pub start : State
@@ -104,7 +122,11 @@ step_at code s = lone (successors code s)
 
 -- the state is one of a block whose kind may follow
 abbrev pub fits : (ℕ → ℕ → Bool) → ℕ → Block → State → Bool
-fits may k b t = elim (t.at == b.start.at) [ true ↦ elim (may k b.kind) [ true ↦ implies t b.start | false ↦ false ] | false ↦ false ]
+fits may k b t =
+    elim (t.at == b.start.at) [
+      | true ↦ elim (may k b.kind) [ true ↦ implies t b.start | false ↦ false ]
+      | false ↦ false
+    ]
 
 -- the state is one of some block whose kind may follow
 abbrev pub covered : (ℕ → ℕ → Bool) → ℕ → List Block → State → Bool
@@ -152,7 +174,9 @@ pub record Here (code : List Insn) (user : List ℕ) (env : ℕ → ℕ) (bs : L
   pub describes : Describes code user env state sys
 
 -- the hart is at the start of a block whose kind may follow
-pub record Enters (may : ℕ → ℕ → Bool) (code : List Insn) (user : List ℕ) (env : ℕ → ℕ) (bs : List Block) (k : ℕ) (sys : System) : Type 0 where
+pub record Enters
+    (may : ℕ → ℕ → Bool) (code : List Insn) (user : List ℕ) (env : ℕ → ℕ) (bs : List Block) (k : ℕ)
+    (sys : System) : Type 0 where
   pub block : Block
   pub among : Among block bs
   pub goes : may k block.kind ≡ true
@@ -161,10 +185,13 @@ pub record Enters (may : ℕ → ℕ → Bool) (code : List Insn) (user : List �
 -- each block of the list goes well
 abbrev pub all_well : (ℕ → ℕ → Bool) → List Insn → List Block → List Block → Bool
 all_well may code bs [] = true
-all_well may code bs (b ∷ more) = elim (runs_well may code b.kind bs b.checked b.size b.start) [ true ↦ all_well may code bs more | false ↦ false ]
+all_well may code bs (b ∷ more) =
+    elim (runs_well may code b.kind bs b.checked b.size b.start) [ true ↦ all_well may code bs more | false ↦ false ]
 
 -- a step from a place of a block stays in its kind, goes into one that may follow it, or is left open
-pub data Moves (may : ℕ → ℕ → Bool) (code : List Insn) (user : List ℕ) (env : ℕ → ℕ) (bs : List Block) (k : ℕ) (b : Block) (u : State) (next : System) : Type 0 where
+pub data Moves
+    (may : ℕ → ℕ → Bool) (code : List Insn) (user : List ℕ) (env : ℕ → ℕ) (bs : List Block) (k : ℕ) (b : Block)
+    (u : State) (next : System) : Type 0 where
   Stays : Here code user env bs k next → Moves may code user env bs k b u next
   Goes_to : Enters may code user env bs k next → Moves may code user env bs k b u next
   Left_open : b.checked ≡ false → IsLast code b.size b.start u → Moves may code user env bs k b u next
@@ -172,7 +199,8 @@ pub data Moves (may : ℕ → ℕ → Bool) (code : List Insn) (user : List ℕ)
 -- the first block that does not go well, if there is one
 abbrev pub first_bad : (ℕ → ℕ → Bool) → List Insn → List Block → List Block → Option Block
 first_bad may code bs [] = None
-first_bad may code bs (b ∷ more) = elim (runs_well may code b.kind bs b.checked b.size b.start) [ true ↦ first_bad may code bs more | false ↦ Some b ]
+first_bad may code bs (b ∷ more) =
+    elim (runs_well may code b.kind bs b.checked b.size b.start) [ true ↦ first_bad may code bs more | false ↦ Some b ]
 
 -- a number is one of a list
 abbrev pub member : ℕ → List ℕ → Bool
@@ -181,10 +209,15 @@ member n (m ∷ ms) = elim (n == m) [ true ↦ true | false ↦ member n ms ]
 
 -- from a place of the code at which a state is known, a step leads to one of its successors
 abbrev pub StepsAreSuccessors : Type 0
-StepsAreSuccessors = (code : List Insn) (user : List ℕ) (env : ℕ → ℕ) (s : State) (sys : System) → Describes code user env s sys → AreRegisters sys.hart.registers
+StepsAreSuccessors =
+    (code : List Insn) (user : List ℕ) (env : ℕ → ℕ) (s : State) (sys : System) → Describes code user env s sys
+    → AreRegisters sys.hart.registers
     → (ts : List State) → successors code s ≡ Some ts → OneDescribes code user env ts (hart_step sys)
 
--- where each block goes well, a step from a place of a block stays in its kind, goes into one that may follow it, or is left open
+-- where each block goes well, a step from a place of a block stays in its kind, goes into one that may follow it, or is
+-- left open
 abbrev pub BlocksLead : Type 0
-BlocksLead = (may : ℕ → ℕ → Bool) (code : List Insn) (user : List ℕ) (env : ℕ → ℕ) (bs : List Block) (k : ℕ) (sys : System) → all_well may code bs bs ≡ true → AreRegisters sys.hart.registers
+BlocksLead =
+    (may : ℕ → ℕ → Bool) (code : List Insn) (user : List ℕ) (env : ℕ → ℕ) (bs : List Block) (k : ℕ) (sys : System)
+    → all_well may code bs bs ≡ true → AreRegisters sys.hart.registers
     → (w : Here code user env bs k sys) → Moves may code user env bs k w.block w.state (hart_step sys)

@@ -21,7 +21,8 @@ pub record CsrTerms : Type 0 where
   pub tvec : Term
   pub pmp : PmpState
 
--- what is known of a hart at one address: its registers, its control and status registers, the doublewords of the kernel area behind the code, and comparisons
+-- what is known of a hart at one address: its registers, its control and status registers, the doublewords of the
+-- kernel area behind the code, and comparisons
 pub record State : Type 0 where
   pub at : ℕ
   pub regs : List Term

@@ -27,7 +27,9 @@ reg s n = get_or s.regs n Unknown
 abbrev pub next_at : State → ℕ
 next_at s = (s.at + 4) % 2 ^ 64
 
--- what an instruction does, as far as a state tells: writes a register, jumps, branches by a comparison (the flag before the target says that it is negated), loads or stores a doubleword, or writes or reads a control and status register
+-- what an instruction does, as far as a state tells: writes a register, jumps, branches by a comparison (the flag
+-- before the target says that it is negated), loads or stores a doubleword, or writes or reads a control and status
+-- register
 pub data Action : Type 0 where
   Puts : ℕ → Term → Action
   Jumps : ℕ → ℕ → Action
@@ -93,7 +95,8 @@ only false s = None
 
 -- a doubleword is loaded to a register
 abbrev pub load_into : State → ℕ → Term → Option (List State)
-load_into s rd (Lit a) = only (is_cell a) (record s { at = next_at s; regs = put_term s.regs rd (get_or s.cells (cell_no a) Unknown) })
+load_into s rd (Lit a) =
+    only (is_cell a) (record s { at = next_at s; regs = put_term s.regs rd (get_or s.cells (cell_no a) Unknown) })
 load_into s rd (Var a) = None
 load_into s rd (Bin o a b) = None
 load_into s rd (Aligned a) = None
@@ -118,7 +121,10 @@ learn d a b t fs = if is_known a && is_known b then record { below = d; left = a
 
 -- both ways of a branch: the comparison holds, or it does not
 abbrev pub both_ways : State → Bool → Term → Term → ℕ → ℕ → List State
-both_ways s d a b met unmet = record s { at = met; facts = learn d a b true s.facts } ∷ record s { at = unmet; facts = learn d a b false s.facts } ∷ []
+both_ways s d a b met unmet =
+    record s { at = met; facts = learn d a b true s.facts }
+    ∷ record s { at = unmet; facts = learn d a b false s.facts }
+    ∷ []
 
 -- both ways of a branch whose comparison is negated or not
 abbrev pub fork_by : Bool → State → Bool → Term → Term → ℕ → List State
@@ -127,7 +133,8 @@ fork_by true s d a b target = both_ways s d a b (next_at s) target
 
 -- the ways of a branch: one where both terms are literals, or else both
 abbrev pub fork_from : State → Bool → Term → Term → Bool → ℕ → List State
-fork_from s d (Lit a) (Lit b) negated target = record s { at = if flip negated (compared d a b) then target else next_at s } ∷ []
+fork_from s d (Lit a) (Lit b) negated target =
+    record s { at = if flip negated (compared d a b) then target else next_at s } ∷ []
 fork_from s d a b negated target = fork_by negated s d a b target
 
 -- the term of a control and status register
@@ -141,9 +148,14 @@ get_csr _ s = Unknown
 
 -- a register of the PMP is written with a literal
 abbrev pub set_lit : Csr → ℕ → CsrTerms → Option CsrTerms
-set_lit Pmpcfg0 n s = Some (record s { pmp = record { entry0 = configured s.pmp.entry0 (bits n 0 8); entry1 = configured s.pmp.entry1 (bits n 8 8) } })
-set_lit Pmpaddr0 n s = Some (record s { pmp = record s.pmp { entry0 = record s.pmp.entry0 { end = 4 * (n % 2 ^ 54) } } })
-set_lit Pmpaddr1 n s = Some (record s { pmp = record s.pmp { entry1 = record s.pmp.entry1 { end = 4 * (n % 2 ^ 54) } } })
+set_lit Pmpcfg0 n s =
+    Some (record s {
+      pmp = record { entry0 = configured s.pmp.entry0 (bits n 0 8); entry1 = configured s.pmp.entry1 (bits n 8 8) };
+    })
+set_lit Pmpaddr0 n s =
+    Some (record s { pmp = record s.pmp { entry0 = record s.pmp.entry0 { end = 4 * (n % 2 ^ 54) } } })
+set_lit Pmpaddr1 n s =
+    Some (record s { pmp = record s.pmp { entry1 = record s.pmp.entry1 { end = 4 * (n % 2 ^ 54) } } })
 set_lit _ n s = None
 
 -- a register of the PMP is written
@@ -193,8 +205,10 @@ guarded false ss = None
 -- the states to which an action may lead; none where that is not known
 abbrev pub after_action : Action → State → Option (List State)
 after_action (Puts rd v) s = Some (record s { at = next_at s; regs = put_term s.regs rd v } ∷ [])
-after_action (Jumps rd target) s = only (target % instruction_alignment == 0) (record s { at = target; regs = put_term s.regs rd (Lit (next_at s)) })
-after_action (Forks d a b negated target) s = guarded (target % instruction_alignment == 0) (fork_from s d a b negated target)
+after_action (Jumps rd target) s =
+    only (target % instruction_alignment == 0) (record s { at = target; regs = put_term s.regs rd (Lit (next_at s)) })
+after_action (Forks d a b negated target) s =
+    guarded (target % instruction_alignment == 0) (fork_from s d a b negated target)
 after_action (Loads rd a) s = load_into s rd a
 after_action (Stores a v) s = store_from s a v
 after_action (Swaps rd csr v) s = swap_csr (is_read_only csr) (csr_of csr) s rd v
@@ -211,7 +225,8 @@ successors_of i s = and_then (action_of i s) (λ d. after_action d s)
 
 -- the instruction at an address
 abbrev pub fetch : List Insn → ℕ → Option Insn
-fetch code a = if a == kernel_start + 4 * ((a - kernel_start) / 4) then slice_get code ((a - kernel_start) / 4) else None
+fetch code a =
+    if a == kernel_start + 4 * ((a - kernel_start) / 4) then slice_get code ((a - kernel_start) / 4) else None
 
 -- the states to which a step may lead; none where that is not known
 abbrev pub successors : List Insn → State → Option (List State)

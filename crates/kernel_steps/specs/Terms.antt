@@ -6,7 +6,8 @@ use Rattle.rv_alu.specs.declared.arithmetic.AluOp.TheVariants as op
 use Rattle.rv_csr.specs.Fields.{instruction_aligned}
 use Rattle.guest_memory.specs.Memory.{load}
 
--- what is known of a number: that it is this literal, that of a variable, the result of an operation on two terms, the address of an instruction at or before one, or nothing
+-- what is known of a number: that it is this literal, that of a variable, the result of an operation on two terms, the
+-- address of an instruction at or before one, or nothing
 pub data Term : Type 0 where
   Lit : ℕ → Term
   Var : ℕ → Term
