@@ -24,6 +24,8 @@ pub mod laws;
 pub mod phase;
 pub mod start;
 pub mod steps;
+#[cfg(test)]
+mod tests;
 pub mod user_mode;
 mod words;
 pub mod writes;
