@@ -36,3 +36,4 @@ pub mod RowLaws
 pub mod ChangeLaws
 pub mod AdvanceLaws
 pub mod StepsLeft
+pub mod CallPartLaws

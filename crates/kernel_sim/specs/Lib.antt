@@ -15,3 +15,4 @@ pub mod Mailbox
 pub mod Changes
 pub mod Progress
 pub mod Advance
+pub mod CallParts
