@@ -1,10 +1,22 @@
 // Laws of the definitions: each function does nothing, and its contract is the law.
-ghost use Rattle.rv_hart.specs.Laws.{StepsKeepRange, MachineStepsUncounted, QuietSteps};
+ghost use Rattle.rv_hart.specs.Laws.{StepsKeepRange, StepsStayUnhalted, StepsCountOnce, MachineStepsUncounted, QuietSteps};
 
 /// A step keeps a hart and a bus whose numbers fit.
 #[tactic(auto, using(crate::proofs::RangeLaws::steps_keep_range))]
 pub fn steps_keep_range()
     ensures { StepsKeepRange }
+{}
+
+/// A step leaves a hart unhalted that is not halted.
+#[tactic(auto, using(crate::proofs::CountLaws::steps_stay_unhalted))]
+pub fn steps_stay_unhalted()
+    ensures { StepsStayUnhalted }
+{}
+
+/// A step raises the count of user steps by one at most.
+#[tactic(auto, using(crate::proofs::CountLaws::steps_count_once))]
+pub fn steps_count_once()
+    ensures { StepsCountOnce }
 {}
 
 /// A step in machine mode is no user step.

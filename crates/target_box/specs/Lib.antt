@@ -4,6 +4,5 @@ pub mod Trace
 pub mod Lined
 pub mod TurnLaws
 pub mod Puts
-pub mod HartLaws
 pub mod StepLaws
 pub mod TargetLaws

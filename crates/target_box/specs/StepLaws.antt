@@ -4,9 +4,9 @@ use Rattle.guest_memory.specs.Bus.{IsBus}
 use Rattle.rv_hart.specs.HartStep.{System, IsHart, IsUnhalted, hart_step}
 use Rattle.rv_hart.specs.Laws.{IsSystem}
 use Rattle.rv_hart.specs.Walks.{hart_after, hart_after-zero}
+use Rattle.rv_hart.proofs.CountLaws.{steps_stay_unhalted, steps_count_once}
 use Rattle.rv_hart.proofs.RangeLaws.{steps_keep_range}
 use Rattle.rv_hart.proofs.WalkLaws.{hart_after-sum}
-use Rattle.target_box.specs.HartLaws.{step-unhalted, step-counts}
 
 -- what holds of a hart that is not halted, whose numbers fit
 pub record IsWhole (system : System) : Type 0 where
@@ -17,7 +17,7 @@ pub record IsWhole (system : System) : Type 0 where
 pub step-whole : (system : System) → IsWhole system → IsWhole (hart_step system)
 step-whole system whole =
     let kept : IsSystem (hart_step system) = steps_keep_range system (record { hart_fits = whole.hart_fits; bus_fits = whole.bus_fits }) in
-    record { unhalted = step-unhalted system whole.unhalted; hart_fits = kept.hart_fits; bus_fits = kept.bus_fits }
+    record { unhalted = steps_stay_unhalted system whole.unhalted; hart_fits = kept.hart_fits; bus_fits = kept.bus_fits }
 
 pub steps-none : (system : System) → system ≡ hart_after 0 system
 steps-none system = sym (hart_after-zero system)
@@ -35,4 +35,4 @@ steps-whole (suc count) system whole = step-whole (hart_after count system) (ste
 pub steps-count : (count : ℕ) (system : System) → (hart_after count system).hart.user_steps ≤ system.hart.user_steps + count
 unfolding hart_after
 steps-count zero system = omega arith
-steps-count (suc count) system = omega (arith, steps-count count system, step-counts (hart_after count system))
+steps-count (suc count) system = omega (arith, steps-count count system, steps_count_once (hart_after count system))
