@@ -6,14 +6,7 @@ use Rattle.chunk_memory.proofs.SizeLemmas.{StepFits, step-fits, step_size-part, 
 use Rattle.chunk_memory.proofs.TurnLemmas.{turns-step, write_step-part, write_step-whole}
 use Rattle.chunk_memory.specs.BeatLaws.{direct_sizes}
 use Rattle.chunk_memory.specs.Transactions.{begins_in_part, step_size}
-use Rattle.chunk_memory.specs.Turns.{range_turns, read_step, read_turns, write_step, write_turns}
-
--- the doublewords that a range of some bytes meets, and how many of its ends do not fill theirs
-abbrev pub doublewords_met : ℕ → ℕ → ℕ
-doublewords_met at count = (at % 8 + count + 7) / 8
-
-abbrev pub open_ends : ℕ → ℕ → ℕ
-open_ends at count = min 1 (at % 8) + min 1 ((at + count) % 8)
+use Rattle.chunk_memory.specs.Turns.{range_turns, read_step, read_turns, write_step, write_turns, doublewords_met, open_ends}
 
 -- a doubleword is one transaction
 abbrev pub one_each : ℕ → ℕ
@@ -51,7 +44,7 @@ read-by at count rest fits none more false whole =
     let even : step_size 8 1024 at count % 8 ≡ 0 = ap (λ (n : ℕ). n % 8) size ∙ units count in
     omega (arith, same, whole-met at count (step_size 8 1024 at count) rest (whole-is 8 at count whole).0 fits.some fits.within even none more)
 
-pub direct-read-turns : (fuel at count : ℕ) → count ≤ fuel → 0 < count → read_turns one_each 8 1024 at count ≤ doublewords_met at count
+direct-read-turns : (fuel at count : ℕ) → count ≤ fuel → 0 < count → read_turns one_each 8 1024 at count ≤ doublewords_met at count
 direct-read-turns zero at count less some = absurd (omega arith)
 direct-read-turns (suc fuel) at count less some =
     let k : ℕ = step_size 8 1024 at count in
@@ -95,7 +88,7 @@ write-by at count rest fits none more false whole =
     let even : step_size 8 1024 at count % 8 ≡ 0 = ap (λ (n : ℕ). n % 8) size ∙ units count in
     omega (arith, same, whole-open at count (step_size 8 1024 at count) rest (whole-is 8 at count whole).0 fits.some fits.within even none more)
 
-pub direct-write-turns : (fuel at count : ℕ) → count ≤ fuel → 0 < count → write_turns one_each 8 1024 at count ≤ doublewords_met at count + open_ends at count
+direct-write-turns : (fuel at count : ℕ) → count ≤ fuel → 0 < count → write_turns one_each 8 1024 at count ≤ doublewords_met at count + open_ends at count
 direct-write-turns zero at count less some = absurd (omega arith)
 direct-write-turns (suc fuel) at count less some =
     let k : ℕ = step_size 8 1024 at count in
@@ -105,3 +98,12 @@ direct-write-turns (suc fuel) at count less some =
     let first = write-by at count rest fits (rest-none (write_step one_each 8 1024) (at + k) (count - k))
     (λ left. direct-write-turns fuel (at + k) (count - k) (omega (arith, fits.some)) left) (begins_in_part 8 at count) refl in
     omega (arith, all, first)
+
+-- ---- any range
+pub read_turns_met : (at count : ℕ) → read_turns one_each 8 1024 at count ≤ doublewords_met at count
+read_turns_met at zero = omega arith
+read_turns_met at (suc count) = direct-read-turns (suc count) at (suc count) (omega arith) (omega arith)
+
+pub write_turns_met : (at count : ℕ) → write_turns one_each 8 1024 at count ≤ doublewords_met at count + open_ends at count
+write_turns_met at zero = omega arith
+write_turns_met at (suc count) = direct-write-turns (suc count) at (suc count) (omega arith) (omega arith)

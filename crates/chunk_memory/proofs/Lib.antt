@@ -1,3 +1,5 @@
+pub mod AreaRanges
+pub mod BusRanges
 pub mod DirectLemmas
 pub mod DirectTurns
 pub mod PieceLemmas

@@ -52,7 +52,7 @@ pub record Area (start end : ℕ) : Type 0 where
   pub loads : (bus : BusState) (at : ℕ) → at % 8 ≡ 0 → start ≤ at → at + 8 ≤ end → beat bus at ≡ Some (load (bytes bus) (at - start) 8)
   pub stores : (bus : BusState) (at value : ℕ) → at % 8 ≡ 0 → start ≤ at → at + 8 ≤ end → with_beat bus at value ≡ put bus (store (bytes bus) (at - start) 8 value)
 
-pub user_area : Area user_start user_end
+unfoldable pub user_area : Area user_start user_end
 user_area = record {
   bytes = λ bus. bus.user;
   put = λ bus l. record bus { user = l };
@@ -65,7 +65,7 @@ user_area = record {
       with_beat-ram bus at value other (is_beat-ram at even (is_ram-user at 8 low high)) ∙ bus_store-user bus at 8 value (omega arith);
 }
 
-pub kernel_area : Area kernel_start kernel_end
+unfoldable pub kernel_area : Area kernel_start kernel_end
 kernel_area = record {
   bytes = λ bus. bus.kernel;
   put = λ bus l. record bus { kernel = l };

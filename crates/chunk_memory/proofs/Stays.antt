@@ -13,6 +13,7 @@ use Rattle.chunk_memory.proofs.RamLemmas.{part-joins, none-is}
 use Rattle.chunk_memory.proofs.WordLemmas.{AreSmall, small-drop, small-take, number-of}
 use Rattle.chunk_memory.specs.BeatLaws.{eight-of}
 use Rattle.chunk_memory.specs.Ports.{ArePortSizes}
+use Rattle.chunk_memory.specs.RangeLaws.{OneLoad, OneStore}
 use Rattle.chunk_memory.specs.Reached.{Reached}
 use Rattle.chunk_memory.specs.Spelling.{StoresPiece, MergesPiece, SpellsRead, SpellsWrite, place_of, stored_at, stored_bytes, StoredFits, IsOneAccess}
 
@@ -46,12 +47,6 @@ part-merged area part q s m room fits =
     ∙ ap (λ (l : List ℕ). take (q + s) area ++ l) (append_assoc part (drop (s + k) w) (drop (q + m) area) ∙ ap (λ (l : List ℕ). part ++ l) back)
 
 -- ---- a doubleword is one access
-pub record OneLoad (at : ℕ) (bytes : List ℕ) (xs : List Access) : Type 0 where
-  pub value : ℕ
-  pub is : xs ≡ Loaded at value ∷ []
-  pub fits : value < 2 ^ 64
-  pub bytes_are : bytes ≡ to_le_bytes w64 value
-
 pub one-load : (cut at : ℕ) (bytes : List ℕ) (xs : List Access) → at % 8 ≡ 0 → length bytes ≡ 8 → IsOneAccess at (length bytes) xs → SpellsRead cut at bytes xs → OneLoad at bytes xs
 one-load cut at bytes [] even eight one s = let e = one even eight in absurd (omega arith)
 one-load cut at bytes (Loaded place value ∷ xs) even eight one s =
@@ -72,12 +67,6 @@ one-load cut at bytes (Loaded place value ∷ xs) even eight one s =
 one-load cut at bytes (Stored place x ∷ xs) even eight one s = absurd s
 one-load cut at bytes (StoredLow place x ∷ xs) even eight one s = absurd s
 one-load cut at bytes (StoredHigh place x ∷ xs) even eight one s = absurd s
-
-pub record OneStore (at : ℕ) (bytes : List ℕ) (xs : List Access) : Type 0 where
-  pub value : ℕ
-  pub is : xs ≡ Stored at value ∷ []
-  pub fits : value < 2 ^ 64
-  pub bytes_are : bytes ≡ to_le_bytes w64 value
 
 pub one-store : (unit cut at : ℕ) (bytes : List ℕ) (xs : List Access) → at % 8 ≡ 0 → length bytes ≡ 8 → IsOneAccess at (length bytes) xs → SpellsWrite unit cut at bytes xs → OneStore at bytes xs
 one-store unit cut at bytes [] even eight one s = let e = one even eight in absurd (omega arith)

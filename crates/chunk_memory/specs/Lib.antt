@@ -3,6 +3,7 @@ pub mod BeatLaws
 pub mod Ports
 pub mod RamLaws
 pub mod RamTurns
+pub mod RangeLaws
 pub mod Ranges
 pub mod Reached
 pub mod Spelling

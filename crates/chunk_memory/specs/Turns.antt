@@ -1,5 +1,5 @@
 -- How many transactions a range takes at most, where a chunk of so many bytes takes so many.
-use Rattle.std.specs.Prelude.{ℕ, zero, suc, ◌+◌, ◌-◌, if◌then◌else◌}
+use Rattle.std.specs.Prelude.{ℕ, zero, suc, ◌+◌, ◌-◌, ◌/◌, ◌%◌, min, if◌then◌else◌}
 use Rattle.chunk_memory.specs.Transactions.{begins_in_part, chunk_size, step_size}
 
 -- the sum over the steps of a range, each by its address and by how many bytes are left; fuel is at least that many
@@ -24,3 +24,10 @@ read_turns cost unit most at count = range_turns (read_step cost unit most) unit
 
 abbrev pub write_turns : (ℕ → ℕ) → ℕ → ℕ → ℕ → ℕ → ℕ
 write_turns cost unit most at count = range_turns (write_step cost unit most) unit most count at count
+
+-- the doublewords that a range of some bytes meets, and how many of its ends do not fill theirs
+abbrev pub doublewords_met : ℕ → ℕ → ℕ
+doublewords_met at count = (at % 8 + count + 7) / 8
+
+abbrev pub open_ends : ℕ → ℕ → ℕ
+open_ends at count = min 1 (at % 8) + min 1 ((at + count) % 8)

@@ -8,12 +8,14 @@
 //   whole before it makes a transaction, and tells its first doubleword that is not; else it cuts the range into chunks
 //   (`specs/Transactions`), and of a unit that a write does not fill it first reads the other bytes. Over a port that is
 //   told and ready the accesses are those that spell the range (`specs/Spelling`).
+// - `laws` says what the accesses of a range come to: of a doubleword, and over a bus.
 //
 // None of these calls takes memory.
 #![tactic(auto)]
 
 mod chunked;
 mod direct_port;
+pub mod laws;
 mod mapped;
 mod port;
 mod ram_port;

@@ -132,11 +132,11 @@ fn doublewords_over_a_bus(rt: HostRuntime) -> Result<(), Fail> {
     Ok(())
 }
 
-// A wire to 8 doublewords from the first address of the user area on. It fails at the transaction before which `cut` are
+// A wire to 40 doublewords from the first address of the user area on. It fails at the transaction before which `cut` are
 // left; that one is made all the same. It tells nothing of its doublewords.
 #[derive(Drop)]
 struct SmallWire {
-    words: [u64; 8],
+    words: [u64; 40],
     left: u64,
     cut: u64,
     faults: u64,
@@ -159,7 +159,7 @@ impl SmallWire {
 }
 
 fn word_at(at: u64) -> usize {
-    (at.wrapping_sub(USER_START) / 8 % 8) as usize
+    (at.wrapping_sub(USER_START) / 8 % 40) as usize
 }
 
 impl BeatWire for SmallWire {
@@ -198,14 +198,14 @@ impl BeatWire for SmallWire {
 
     fn read_beat(&mut self, at: u64) -> Result<u64, WireStop> {
         self.turn()?;
-        Ok(self.words[word_at(at) % 8])
+        Ok(self.words[word_at(at) % 40])
     }
 
     fn write_beat(&mut self, at: u64, value: u64) -> Result<(), WireStop> {
         match self.turn() {
             Err(WireStop::Spent) => Err(WireStop::Spent),
             answer => {
-                self.words[word_at(at) % 8] = value;
+                self.words[word_at(at) % 40] = value;
                 answer
             }
         }
@@ -223,7 +223,7 @@ impl BeatWire for SmallWire {
 }
 
 fn wire(left: u64, cut: u64) -> SmallWire {
-    let mut words = [0; 8];
+    let mut words = [0; 40];
     let mut place = 0u64;
     for word in words.iter_mut() {
         let mut bytes = [0; 8];
@@ -254,10 +254,21 @@ fn is_met(word: u64, offset: u64, count: u64) -> bool {
         && word.wrapping_mul(8) < offset.wrapping_add(count)
 }
 
+// How many doublewords have a byte of a range.
+fn words_met(offset: u64, count: u64) -> u64 {
+    let mut words = 0u64;
+    for word in 0..40 {
+        if is_met(word, offset, count) {
+            words = words.wrapping_add(1);
+        }
+    }
+    words
+}
+
 // How many transactions the writes of the doublewords below one make: one each, and before it a read where it isn't whole.
 fn beats_below(end: u64, offset: u64, count: u64) -> u64 {
     let mut beats = 0u64;
-    for word in 0..8 {
+    for word in 0..40 {
         if word < end && is_met(word, offset, count) {
             beats = beats.wrapping_add(if is_whole(word, offset, count) { 1 } else { 2 });
         }
@@ -265,64 +276,133 @@ fn beats_below(end: u64, offset: u64, count: u64) -> u64 {
     beats
 }
 
-// The bytes of the wire once so many transactions of a write were made: the new ones where the write of their doubleword
-// was among them, and the old ones elsewhere.
+// The doubleword at a place, whose bytes in a range are the new ones if they were written.
+fn doubleword(word: u64, offset: u64, count: u64, written: bool) -> u64 {
+    let mut bytes = [0; 8];
+    let mut place = word.wrapping_mul(8);
+    for byte in bytes.iter_mut() {
+        let inside = place >= offset && place < offset.wrapping_add(count);
+        let value = if inside && written {
+            new_byte(place.wrapping_sub(offset))
+        } else {
+            old_byte(place)
+        };
+        *byte = (value % 256) as u8;
+        place = place.wrapping_add(1);
+    }
+    u64::from_le_bytes(bytes)
+}
+
+// The doublewords of the wire once so many transactions of a write were made: with the new bytes where the write was among
+// them, and with the old ones elsewhere.
 fn holds(wire: &SmallWire, made: u64, offset: u64, count: u64) -> bool {
     let mut place = 0u64;
     for word in wire.words {
-        for byte in word.to_le_bytes() {
-            let inside = place >= offset && place < offset.wrapping_add(count);
-            let written = inside && beats_below((place / 8).wrapping_add(1), offset, count) <= made;
-            let want = if written {
-                new_byte(place.wrapping_sub(offset))
-            } else {
-                old_byte(place)
-            };
-            if u64::from(byte) != want {
-                return false;
-            }
-            place = place.wrapping_add(1);
+        let written = beats_below(place.wrapping_add(1), offset, count) <= made;
+        if word != doubleword(place, offset, count, written) {
+            return false;
         }
+        place = place.wrapping_add(1);
     }
     true
+}
+
+// The answer of a range of so many transactions, and how many of them are made.
+fn outcome(beats: u64, left: u64, cut: u64) -> (Result<(), MemStop>, u64) {
+    let until_cut = left.wrapping_sub(cut).wrapping_add(1);
+    if cut <= left && cut > 0 && until_cut <= beats {
+        (Err(MemStop::WireFault), until_cut)
+    } else if left < beats {
+        (Err(MemStop::Spent), left)
+    } else {
+        (Ok(()), beats)
+    }
 }
 
 // Writes a range over a wire that is spent or fails at a transaction, and says whether the answer, the number of
 // transactions and the bytes are as they should be.
 fn write_stops(offset: u64, count: usize, left: u64, cut: u64) -> bool {
-    let bytes = new_bytes();
+    let mut bytes = [0; 320];
+    let mut place = 0u64;
+    for byte in bytes.iter_mut() {
+        *byte = (new_byte(place) % 256) as u8;
+        place = place.wrapping_add(1);
+    }
     let Some(from) = bytes.get(..count) else {
         return false;
     };
     let mut memory = Chunked::over(DirectPort::over(wire(left, cut)));
     let answer = memory.write(USER_START.wrapping_add(offset), from);
     let after = memory.into_port().into_wire();
-    let beats = beats_below(8, offset, count as u64);
-    let until_cut = left.wrapping_sub(cut).wrapping_add(1);
-    let (want, made) = if cut <= left && cut > 0 && until_cut <= beats {
-        (Err(MemStop::WireFault), until_cut)
-    } else if left < beats {
-        (Err(MemStop::Spent), left)
-    } else {
-        (Ok(()), beats)
-    };
+    let (want, made) = outcome(beats_below(40, offset, count as u64), left, cut);
     answer == want
         && after.left == left.wrapping_sub(made)
         && holds(&after, made, offset, count as u64)
 }
 
+// Reads a range over such a wire, and says the same.
+fn read_stops(offset: u64, count: usize, left: u64, cut: u64) -> bool {
+    let mut bytes = [0xee; 320];
+    let Some(into) = bytes.get_mut(..count) else {
+        return false;
+    };
+    let mut memory = Chunked::over(DirectPort::over(wire(left, cut)));
+    let answer = memory.read(USER_START.wrapping_add(offset), into);
+    let after = memory.into_port().into_wire();
+    let (want, made) = outcome(words_met(offset, count as u64), left, cut);
+    answer == want
+        && after.left == left.wrapping_sub(made)
+        && holds(&after, 0, offset, count as u64)
+        && (answer.is_err() || were_read(&bytes, offset, count as u64))
+}
+
+// Whether what was read are the old bytes of a range, and what stands behind them is as it was.
+fn were_read(bytes: &[u8; 320], offset: u64, count: u64) -> bool {
+    let mut place = 0u64;
+    for byte in bytes {
+        let inside = place < count;
+        let want = if inside {
+            old_byte(offset.wrapping_add(place))
+        } else {
+            0xee
+        };
+        if u64::from(*byte) != want {
+            return false;
+        }
+        place = place.wrapping_add(1);
+    }
+    true
+}
+
+// A row: a range. Each of its transactions is the one that is not made, or whose reply is lost.
 #[test]
-fn writes_that_stop(rt: HostRuntime) {
-    for offset in 0..8 {
-        for count in [0, 1, 2, 7, 8, 9, 15, 16, 17, 23, 24, 25, 31, 32, 40] {
-            for turn in 0..9 {
+fn ranges_that_stop(rt: HostRuntime) {
+    let rows = [
+        (0, 0),
+        (5, 0),
+        (0, 1),
+        (7, 2),
+        (0, 7),
+        (0, 8),
+        (3, 8),
+        (0, 9),
+        (6, 23),
+        (2, 40),
+        (0, 320),
+        (1, 313),
+        (4, 316),
+        (7, 299),
+    ];
+    for (offset, count) in rows {
+        for turn in 0..41 {
+            for (left, cut) in [(turn, 0), (100, 100 - turn)] {
                 assert!(rt;
-                    write_stops(offset, count, turn, 0),
-                    "spent {offset} {count} {turn}"
+                    write_stops(offset, count, left, cut),
+                    "write {offset} {count} {left} {cut}"
                 );
                 assert!(rt;
-                    write_stops(offset, count, 40, 40 - turn),
-                    "failed {offset} {count} {turn}"
+                    read_stops(offset, count, left, cut),
+                    "read {offset} {count} {left} {cut}"
                 );
             }
         }

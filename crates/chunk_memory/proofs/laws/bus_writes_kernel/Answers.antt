@@ -1,0 +1,5 @@
+use Rattle.chunk_memory.proofs.BusRanges.{bus_writes_kernel}
+use Rattle.chunk_memory.proofs.laws.bus_writes_kernel.Goals as goal
+
+pub returns : goal.returns
+returns c = bus_writes_kernel
