@@ -8,16 +8,17 @@
 // Nothing here takes memory.
 #![tactic(auto)]
 
-ghost use Rattle.std.specs.Prelude.{◌≡◌, ◌-◌, ◌*◌, ◌/◌, ℕ, length, IsErrOf, IsOk};
+ghost use Rattle.std.specs.Prelude.{◌≡◌, ◌≤◌, ◌+◌, ◌-◌, ◌*◌, ◌/◌, ℕ, length, IsErrOf, IsOk};
 ghost use Rattle.std.specs.Result.{result_err};
 ghost use Rattle.fe_base.specs.Outside.{capacity, PutSuits};
+ghost use Rattle.fe_base.specs.PausePlan.{IsPositive};
 ghost use Rattle.fe_base.specs.Wires.{OnTold};
 ghost use Rattle.chunk_memory.specs.BeatChunks.{DirectOne, DirectRefused, wire_counts};
 ghost use Rattle.chunk_memory.specs.Ports.{CostsAtMost, Maps, MemCauses, MemUnfaulted, with_bytes};
 ghost use Rattle.chunk_memory.specs.Reached.{Reached};
 ghost use Rattle.chunk_memory.specs.Spelling.{ReadSpelled, WriteSpelled};
 ghost use Rattle.chunk_memory.specs.Transactions.{ReadsRange, WritesRange};
-ghost use Rattle.chunk_memory.specs.Turns.{read_turns, write_turns};
+ghost use Rattle.chunk_memory.specs.Turns.{doublewords_met, open_ends, read_turns, write_turns};
 ghost use Rattle.target_box.specs.Lined.{lined, seen, next_line, lost_line, IsPositiveLine};
 ghost use Rattle.target_box.specs.Turn.{IsUsable, ran, touched};
 ghost use Rattle.target_box.specs.declared.target.Link.TheVariants as link_of;
@@ -114,6 +115,8 @@ pub fn read_range<R: Sink>(
     ensures reached { ReadSpelled seen (λ s v. seen s ≡ v) (λ _. Unit {0}) IsPositiveLine ran (Reached ran touched) 8 at
         (length into.old) (with_bytes result into.new) (lined target.old (R.held trace.old))
         (lined target.new (R.held trace.new)) }
+    ensures turns { IsPositive target.old.pauses → target.old.limit - target.old.turns
+        ≤ target.new.limit - target.new.turns + doublewords_met at (length into.old) }
     ensures unmapped { (place : ℕ) → IsErrOf result (MemStop.Unmapped place)
         → (target.new ≡ target.old) × (trace.new ≡ trace.old) }
     ensures empty { length into.old ≡ 0 → (target.new ≡ target.old) × (trace.new ≡ trace.old) }
@@ -147,6 +150,8 @@ pub fn write_range<R: Sink>(
         (lined target.old (R.held trace.old)) (lined target.new (R.held trace.new)) }
     ensures reached { WriteSpelled seen (λ s v. seen s ≡ v) (λ _. Unit {0}) IsPositiveLine ran (Reached ran touched) 8 at
         from.now result (lined target.old (R.held trace.old)) (lined target.new (R.held trace.new)) }
+    ensures turns { IsPositive target.old.pauses → target.old.limit - target.old.turns
+        ≤ target.new.limit - target.new.turns + doublewords_met at (length from.now) + open_ends at (length from.now) }
     ensures unmapped { (place : ℕ) → IsErrOf result (MemStop.Unmapped place)
         → (target.new ≡ target.old) × (trace.new ≡ trace.old) }
     ensures empty { length from.now ≡ 0 → (target.new ≡ target.old) × (trace.new ≡ trace.old) }
