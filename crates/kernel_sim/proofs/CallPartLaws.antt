@@ -1,14 +1,14 @@
 -- The kernel part of a call agrees with the call table of the direct machine.
-use Rattle.std.proofs.Common.{◌≡◌, ◌≢◌, ℕ, ◌+◌, ◌-◌, ◌^◌, ◌<◌, ◌≤◌, ◌==◌, Bool, true, false, ◌&&◌, ◌||◌, ◌⊎◌, inl, inr, List, [], ◌∷◌, refl, ap, sym, subst, ◌∙◌, arith, nat_lt, if◌then◌else◌}
-use Rattle.std.specs.Prelude.{nat_le, min, not, slice_index}
+use Rattle.std.proofs.Common.{◌≡◌, ℕ, ◌-◌, ◌<◌, ◌≤◌, ◌==◌, Bool, true, false, ◌&&◌, ◌||◌, ◌⊎◌, inl, inr, refl, ap, sym, ◌∙◌, arith, nat_lt, if◌then◌else◌}
+use Rattle.std.specs.Prelude.{nat_le, min}
 use Rattle.std.specs.List.{list_any}
 use Rattle.std.proofs.lemmas.Bool.{false≢true, eqb-true, eqb-false, ne_eqb}
 use Rattle.std.proofs.lemmas.Bool.Decides.{nat_tests}
 use Rattle.fe_base.specs.Limits.{greatest_break, transfer_limit}
 use Rattle.fe_base.specs.MemoryMap.{user_start, user_end}
 use Rattle.fe_base.specs.declared.error_numbers.ErrNo.TheVariants.{EFAULT, ENOSYS}
-use Rattle.plain_machine.specs.CallTable.{Process, service_of, unbuilt_numbers, call_number, argument, refusal, is_buffer, write_count, new_break}
-use Rattle.plain_machine.specs.KernelPart.{Part, gives, breaks, posts, refused, request, in_area, lowered, break_after, direct_part, with_path, path_part, first_part, kernel_part}
+use Rattle.plain_machine.specs.CallTable.{Process, service_of, unbuilt_numbers, call_number, argument, is_buffer, write_count}
+use Rattle.plain_machine.specs.KernelPart.{Part, breaks, posts, refused, request, in_area, lowered, break_after, with_path, path_part, first_part, kernel_part}
 use Rattle.plain_machine.specs.declared.calls.Service.TheVariants.{Write, Break, Exit, Unbuilt, Unknown}
 use Rattle.kernel_sim.specs.CallParts.{part_of, Agrees, PartsAgree}
 use Rattle.kernel_sim.proofs.PartLaws.{break-part}

@@ -1,24 +1,22 @@
 -- Steps in Save and Check.
-use Rattle.std.proofs.Common.{◌≡◌, ◌≢◌, ℕ, Bool, true, false, inl, inr, List, [], ◌∷◌, refl, ap, subst, ◌∙◌, arith}
+use Rattle.std.proofs.Common.{◌≡◌, ℕ, Bool, true, false, inl, inr, List, [], ◌∷◌, refl, ap, subst, ◌∙◌}
 use Rattle.std.proofs.lemmas.Bool.{false≢true, eqb-true, eqb-false, and_parts}
 use Rattle.rv_hart.specs.HartStep.{System, AreRegisters, hart_step}
 use Rattle.guest_memory.specs.Bus.{IsBus}
 use Rattle.kernel_sim.specs.declared.phase.PhaseKind.TheVariants.{Save, Check}
 use Rattle.kernel_sim.specs.declared.phase.Phase.{Phase}
 use Rattle.kernel_steps.specs.Terms.{Lit, Var}
-use Rattle.kernel_steps.specs.States.{State, Describes}
 use Rattle.kernel_steps.specs.Successors.{reg}
 use Rattle.kernel_steps.specs.Blocks.{Moves, Stays, Goes_to, Left_open, has_fact}
 use Rattle.kernel_code.specs.Kinds.{may_follow}
 use Rattle.kernel_code.specs.Kernel.{kernel, blocks}
 use Rattle.kernel_sim.specs.Stages.{Saving, Checking, Starting, Filling, NoCall, Outside, Breaking, Choosing, TrapIs, Links}
 use Rattle.kernel_steps.proofs.GraphLaws.{has_fact-holds}
-use Rattle.kernel_sim.proofs.Decide.{Gives, Posts, Scans, call_tree, decide, same_answer}
+use Rattle.kernel_sim.proofs.Decide.{Gives, Posts, Scans}
 use Rattle.kernel_steps.proofs.Tests.{In, member-In, starts-at}
-use Rattle.kernel_sim.proofs.Gates.{is_call, not_brk, landed, fill_at, filled, fact}
+use Rattle.kernel_sim.proofs.Gates.{landed, fill_at, filled, fact}
 use Rattle.kernel_code.specs.Numbers.{saving_blocks, checking_blocks, filling_blocks, no_call_blocks, choosing_blocks, v_cause, path_gate, starting_blocks, buffer_gate, outside_blocks, no_call_gate, break_gate, break_blocks, request_gate}
 use Rattle.kernel_sim.proofs.PlaceLaws.{starts_speak, speak_right, is_called, starts_call, call_right}
-use Rattle.kernel_sim.proofs.PathLaws.{or-elim}
 use Rattle.kernel_sim.proofs.StageLaws.{Setting, next, Goal, land, At, Into, moves, enter, gate, open-never, relink, decided, part-gives, part-posts, is_known-values, env6, fill-describes, links6, list6, to_speak}
 
 module _ (given : Setting) where
@@ -53,17 +51,6 @@ module _ (given : Setting) where
         go (Goes_to n) = enters n (member-In n.block.kind (checking_blocks ∷ []) n.goes)
         go (Left_open c i) = absurd ((open-never given user env) saving_blocks w refl c)
 
-    pub other-call : (s : State) → not_brk s ≡ true → Describes kernel user env s (next given) → env 17 ≢ 214
-    other-call s e m = or-elim (has_fact (fact false (Var 17) (Lit 214) false) s.facts) _ e
-        (λ q. eqb-false (env 17) 214 (has_fact-holds env (fact false (Var 17) (Lit 214) false) s.facts q m.facts))
-        (λ q. or-elim (is_call 63 s) _ q (λ r z. let y = is 63 r in absurd (omega arith))
-        (λ q2. or-elim (is_call 64 s) _ q2 (λ r z. let y = is 64 r in absurd (omega arith))
-        (λ q3. or-elim (is_call 67 s) _ q3 (λ r z. let y = is 67 r in absurd (omega arith))
-        (λ q4. or-elim (is_call 68 s) (is_call 80 s) q4 (λ r z. let y = is 68 r in absurd (omega arith)) (λ r z. let y = is 80 r in absurd (omega arith))))))
-      where
-        is : (n : ℕ) → is_call n s ≡ true → env 17 ≡ n
-        is n r = eqb-true (env 17) n (has_fact-holds env (fact false (Var 17) (Lit n) true) s.facts r m.facts)
-
     -- behind the test of the cause
     pub call_cause : (n : (Into given user env) checking_blocks) → is_called n.block.kind ≡ true → env v_cause ≡ 8
     call_cause n e = eqb-true (env v_cause) 8 (has_fact-holds env (fact false (Var v_cause) (Lit 8) true) n.block.start.facts (go (is_called n.block.kind) e (starts-at starts_call blocks n.block call_right n.among)) n.describes.facts)
@@ -91,14 +78,12 @@ module _ (given : Setting) where
         outside : (n : (Into given user env) checking_blocks) → n.block.kind ≡ buffer_gate → (Goal given) Check
         outside n e =
             let t = and_parts _ _ ((gate given user env) checking_blocks buffer_gate n e) in
-            let t2 = and_parts (same_answer (decide n.block.start.facts call_tree) (Gives (Lit 18446744073709551602))) (not_brk n.block.start) t.0 in
-            (land given) Check Outside refl tt user env (landed user env outside_blocks n.block.start (next given) t.1 n.describes) ((relink given user env) Checking Outside p.user (λ z. call_cause n (ap is_called e)) l.pc_is l.break_is l) ((part-gives given user env) _ ((decided given user env) n.block.start (Gives (Lit 18446744073709551602)) t2.0 n.describes.facts), other-call n.block.start t2.1 n.describes)
+            (land given) Check Outside refl tt user env (landed user env outside_blocks n.block.start (next given) t.1 n.describes) ((relink given user env) Checking Outside p.user (λ z. call_cause n (ap is_called e)) l.pc_is l.break_is l) ((part-gives given user env) _ ((decided given user env) n.block.start (Gives (Lit 18446744073709551602)) t.0 n.describes.facts))
 
         unknown : (n : (Into given user env) checking_blocks) → n.block.kind ≡ no_call_gate → (Goal given) Check
         unknown n e =
             let t = and_parts _ _ ((gate given user env) checking_blocks no_call_gate n e) in
-            let t2 = and_parts (same_answer (decide n.block.start.facts call_tree) (Gives (Lit 18446744073709551578))) (not_brk n.block.start) t.0 in
-            (land given) Check NoCall refl tt user env (landed user env no_call_blocks n.block.start (next given) t.1 n.describes) ((relink given user env) Checking NoCall p.user (λ z. call_cause n (ap is_called e)) l.pc_is l.break_is l) ((part-gives given user env) _ ((decided given user env) n.block.start (Gives (Lit 18446744073709551578)) t2.0 n.describes.facts), other-call n.block.start t2.1 n.describes)
+            (land given) Check NoCall refl tt user env (landed user env no_call_blocks n.block.start (next given) t.1 n.describes) ((relink given user env) Checking NoCall p.user (λ z. call_cause n (ap is_called e)) l.pc_is l.break_is l) ((part-gives given user env) _ ((decided given user env) n.block.start (Gives (Lit 18446744073709551578)) t.0 n.describes.facts))
 
         breaks : (n : (Into given user env) checking_blocks) → n.block.kind ≡ break_gate → (Goal given) Check
         breaks n e =

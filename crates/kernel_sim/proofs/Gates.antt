@@ -128,13 +128,6 @@ no_counter fs = has_fact fact_other fs || (has_fact (fact_opcode false) fs || (h
 abbrev pub keeps_break : State → Bool
 keeps_break s = same (get_or s.cells break_cell Unknown) (Var v_break)
 
--- the call is another than brk
-abbrev pub is_call : ℕ → State → Bool
-is_call n s = has_fact (fact false (Var 17) (Lit n) true) s.facts
-
-abbrev pub not_brk : State → Bool
-not_brk s = has_fact (fact false (Var 17) (Lit 214) false) s.facts || (is_call 63 s || (is_call 64 s || (is_call 67 s || (is_call 68 s || is_call 80 s))))
-
 -- the answer of brk
 abbrev pub below_first : Bool → Fact
 below_first t = fact true (Var 10) (Var v_first_break) t
@@ -175,10 +168,10 @@ gate_ok g s =
                                           | true ↦ (has_fact (fact true byte_at (Lit 65536) true) s.facts || has_fact (fact true byte_at (Lit 16842752) false) s.facts) && lands outside_blocks s
                                           | false ↦
                                               elim (g == buffer_gate) [
-                                                | true ↦ same_answer (decide s.facts call_tree) (Gives (Lit 18446744073709551602)) && not_brk s && lands outside_blocks s
+                                                | true ↦ same_answer (decide s.facts call_tree) (Gives (Lit 18446744073709551602)) && lands outside_blocks s
                                                 | false ↦
                                                     elim (g == no_call_gate) [
-                                                      | true ↦ same_answer (decide s.facts call_tree) (Gives (Lit 18446744073709551578)) && not_brk s && lands no_call_blocks s
+                                                      | true ↦ same_answer (decide s.facts call_tree) (Gives (Lit 18446744073709551578)) && lands no_call_blocks s
                                                       | false ↦
                                                           elim (g == break_gate) [
                                                             | true ↦ has_fact (fact false (Var 17) (Lit 214) true) s.facts && lands break_blocks s

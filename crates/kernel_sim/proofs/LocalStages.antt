@@ -1,5 +1,5 @@
 -- Steps in Local.
-use Rattle.std.proofs.Common.{◌≡◌, ◌≢◌, ℕ, ◌-◌, ◌^◌, true, false, ◌&&◌, ◌||◌, inl, inr, List, [], ◌∷◌, get_or, refl, ap, sym, subst, ◌∙◌, arith, nat_lt}
+use Rattle.std.proofs.Common.{◌≡◌, ℕ, ◌-◌, ◌^◌, true, false, ◌&&◌, ◌||◌, inl, inr, List, [], ◌∷◌, get_or, refl, ap, sym, subst, ◌∙◌, arith, nat_lt}
 use Rattle.std.specs.Prelude.{slice_index}
 use Rattle.std.proofs.lemmas.Bool.{false≢true, and_parts}
 use Rattle.fe_base.specs.MemoryMap.{kernel_code_size, kernel_variables}
@@ -49,8 +49,8 @@ module _ (given : Setting) where
   whole_next = given.whole_next
 
   module _ (user : List ℕ) (env : ℕ → ℕ) where
-    pub local-told : (st : Stage) (v : ℕ) → Links st p.user env → p.user.brk ≡ env v_break → sys.bus.user ≡ user → part env user ≡ gives v → env 17 ≢ 214 → (x10 given user env) ≡ v → (s : State) → keeps_break s ≡ true → Describes kernel user env s (next given) → Told Local Restore p sys (next given)
-    local-told st v l b eu x ne q s k m = inl (subst (λ z. kernel_part p.user.regs z p.user.brk p.user.first_break ≡ gives (x10 given user env)) (sym eu) (sym (part-is st p.user env user l b) ∙ x ∙ ap gives (sym q)), (break-now given user env) ∙ (break-is given user env) s (Var v_break) k m ∙ sym b)
+    pub local-told : (st : Stage) (v : ℕ) → Links st p.user env → p.user.brk ≡ env v_break → sys.bus.user ≡ user → part env user ≡ gives v → (x10 given user env) ≡ v → (s : State) → keeps_break s ≡ true → Describes kernel user env s (next given) → Told Local Restore p sys (next given)
+    local-told st v l b eu x q s k m = inl (subst (λ z. kernel_part p.user.regs z p.user.brk p.user.first_break ≡ gives (x10 given user env)) (sym eu) (sym (part-is st p.user env user l b) ∙ x ∙ ap gives (sym q)), (break-now given user env) ∙ (break-is given user env) s (Var v_break) k m ∙ sym b)
 
     -- a step of a stage of one block that leads to restoring
     pub local : (k g : ℕ) (st : Stage) → (CauseIs st (env v_cause) → env v_cause ≡ 8) → stage_number st ≡ k → stage_kind st ≡ Local → followers k ≡ g ∷ [] → is_open k ≡ false → ((s : State) → gate_ok g s ≡ true → restores s ≡ true) → ((s : State) → gate_ok g s ≡ true → Describes kernel user env s (next given) → Told Local Restore p sys (next given)) → (At given user env) k → Links st p.user env → p.user.pc ≡ env v_pc
@@ -73,16 +73,16 @@ module _ (given : Setting) where
         → breaks_ok k ≡ (λ s. same (get_or s.cells break_cell Unknown) (Var v_break)) → Here kernel user env blocks k (next given) → Links st p.user env → Links st (record p.user { brk = bus_load (next given).bus kernel_variables 8 }) env
     local_links st k f g pc q n l = record { regs_are = l.regs_are; count = l.count; zeroth = l.zeroth; pc_is = pc; pc_even = l.pc_even; first_is = l.first_is; break_is = g ((break-kept given user env) k q n); cause_is = l.cause_is }
 
-    pub unknown : (At given user env) no_call_blocks → Links NoCall p.user env → (part env user ≡ gives (2 ^ 64 - 38)) × (env 17 ≢ 214) → (Goal given) Local
-    unknown w l x = local no_call_blocks no_call_done_gate NoCall (λ z. z) refl refl refl refl (λ s e. (second given user env) (same (reg s 10) (Lit 18446744073709551578) && keeps_break s) _ e) (λ s e m. let a = and_parts (same (reg s 10) (Lit 18446744073709551578)) (keeps_break s) ((first given user env) (same (reg s 10) (Lit 18446744073709551578) && keeps_break s) _ e) in local-told NoCall 18446744073709551578 l l.break_is w.describes.memory.user_is x.0 x.1 ((reg10 given user env) s (Lit 18446744073709551578) a.0 m) s a.1 m) w l l.pc_is
+    pub unknown : (At given user env) no_call_blocks → Links NoCall p.user env → part env user ≡ gives (2 ^ 64 - 38) → (Goal given) Local
+    unknown w l x = local no_call_blocks no_call_done_gate NoCall (λ z. z) refl refl refl refl (λ s e. (second given user env) (same (reg s 10) (Lit 18446744073709551578) && keeps_break s) _ e) (λ s e m. let a = and_parts (same (reg s 10) (Lit 18446744073709551578)) (keeps_break s) ((first given user env) (same (reg s 10) (Lit 18446744073709551578) && keeps_break s) _ e) in local-told NoCall 18446744073709551578 l l.break_is w.describes.memory.user_is x ((reg10 given user env) s (Lit 18446744073709551578) a.0 m) s a.1 m) w l l.pc_is
         (λ n. (land given) Local NoCall refl tt user env n (local_links NoCall no_call_blocks (λ z. z) (λ z. (break-now given user env) ∙ z) l.pc_is refl n l) x)
 
-    pub outside : (At given user env) outside_blocks → Links Outside p.user env → (part env user ≡ gives (2 ^ 64 - 14)) × (env 17 ≢ 214) → (Goal given) Local
-    outside w l x = local outside_blocks outside_done_gate Outside (λ z. z) refl refl refl refl (λ s e. (second given user env) (same (reg s 10) (Lit 18446744073709551602) && keeps_break s) _ e) (λ s e m. let a = and_parts (same (reg s 10) (Lit 18446744073709551602)) (keeps_break s) ((first given user env) (same (reg s 10) (Lit 18446744073709551602) && keeps_break s) _ e) in local-told Outside 18446744073709551602 l l.break_is w.describes.memory.user_is x.0 x.1 ((reg10 given user env) s (Lit 18446744073709551602) a.0 m) s a.1 m) w l l.pc_is
+    pub outside : (At given user env) outside_blocks → Links Outside p.user env → part env user ≡ gives (2 ^ 64 - 14) → (Goal given) Local
+    outside w l x = local outside_blocks outside_done_gate Outside (λ z. z) refl refl refl refl (λ s e. (second given user env) (same (reg s 10) (Lit 18446744073709551602) && keeps_break s) _ e) (λ s e m. let a = and_parts (same (reg s 10) (Lit 18446744073709551602)) (keeps_break s) ((first given user env) (same (reg s 10) (Lit 18446744073709551602) && keeps_break s) _ e) in local-told Outside 18446744073709551602 l l.break_is w.describes.memory.user_is x ((reg10 given user env) s (Lit 18446744073709551602) a.0 m) s a.1 m) w l l.pc_is
         (λ n. (land given) Local Outside refl tt user env n (local_links Outside outside_blocks (λ z. z) (λ z. (break-now given user env) ∙ z) l.pc_is refl n l) x)
 
-    pub long_path : (At given user env) long_blocks → Links Long p.user env → (part env user ≡ gives (2 ^ 64 - 36)) × (env 17 ≢ 214) → (Goal given) Local
-    long_path w l x = local long_blocks long_done_gate Long (λ z. z) refl refl refl refl (λ s e. (second given user env) (same (reg s 10) (Lit 18446744073709551580) && keeps_break s) _ e) (λ s e m. let a = and_parts (same (reg s 10) (Lit 18446744073709551580)) (keeps_break s) ((first given user env) (same (reg s 10) (Lit 18446744073709551580) && keeps_break s) _ e) in local-told Long 18446744073709551580 l l.break_is w.describes.memory.user_is x.0 x.1 ((reg10 given user env) s (Lit 18446744073709551580) a.0 m) s a.1 m) w l l.pc_is
+    pub long_path : (At given user env) long_blocks → Links Long p.user env → part env user ≡ gives (2 ^ 64 - 36) → (Goal given) Local
+    long_path w l x = local long_blocks long_done_gate Long (λ z. z) refl refl refl refl (λ s e. (second given user env) (same (reg s 10) (Lit 18446744073709551580) && keeps_break s) _ e) (λ s e m. let a = and_parts (same (reg s 10) (Lit 18446744073709551580)) (keeps_break s) ((first given user env) (same (reg s 10) (Lit 18446744073709551580) && keeps_break s) _ e) in local-told Long 18446744073709551580 l l.break_is w.describes.memory.user_is x ((reg10 given user env) s (Lit 18446744073709551580) a.0 m) s a.1 m) w l l.pc_is
         (λ n. (land given) Local Long refl tt user env n (local_links Long long_blocks (λ z. z) (λ z. (break-now given user env) ∙ z) l.pc_is refl n l) x)
 
     pub break-moved : Here kernel user env blocks break_blocks (next given) → BreakIs Breaking (record p.user { brk = bus_load (next given).bus kernel_variables 8 }) env

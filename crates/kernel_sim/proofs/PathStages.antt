@@ -31,7 +31,7 @@ use Rattle.kernel_code.specs.Numbers.{scanning_blocks, passed_blocks, full_block
 use Rattle.kernel_code.specs.Places.{pc_path_load, pc_path_passed, pc_path_loaded}
 use Rattle.kernel_sim.proofs.PlaceLaws.{high, low-kept, starts_speak, speak_right}
 use Rattle.kernel_sim.proofs.PathLaws.{scan-long, scan-leaves_at, scan-ends_at, scan-on_at, scan-result, or-elim, user-reach, user-load, lbu-there, not-false}
-use Rattle.kernel_sim.proofs.StageLaws.{Setting, next, Goal, land, At, Into, moves, enter, gate, open-never, relink, relink_with, kept_above, part-scans, goes-elsewhere, not-passed_in, same-count, path-call}
+use Rattle.kernel_sim.proofs.StageLaws.{Setting, next, Goal, land, At, Into, moves, enter, gate, open-never, relink, relink_with, kept_above, part-scans, goes-elsewhere, not-passed_in, same-count}
 
 module _ (given : Setting) where
   abbrev p : Phase
@@ -108,7 +108,7 @@ module _ (given : Setting) where
             (λ q. let f = has_fact-holds env (fact true byte_at (Lit 65536) true) s.facts q n.describes.facts in grind (arith, nat_tests))
             (λ q. let f = has_fact-holds env (fact true byte_at (Lit 16842752) false) s.facts q n.describes.facts in grind (arith, nat_tests)) in
             (land given) Scan Outside refl tt user env (landed user env outside_blocks s (next given) t.1 n.describes) ((relink given user env) Scanning Outside p.user (λ z. z) l.pc_is l.break_is l)
-            ((part-scans given user env) x.0.has_path ∙ scan-result env user leaves (x.0.goes_on ∙ scan-leaves_at user (env 11) (env v_scanned) x.0.below out), (path-call given user env) x.0.has_path)
+            ((part-scans given user env) x.0.has_path ∙ scan-result env user leaves (x.0.goes_on ∙ scan-leaves_at user (env 11) (env v_scanned) x.0.below out))
 
         enters : (n : (Into given user env) scanning_blocks) → In n.block.kind (scanning_blocks ∷ path_outside_gate ∷ []) → (Goal given) Scan
         enters n (inl e) = stays ((enter given user env) scanning_blocks scanning_blocks n e)
@@ -262,7 +262,7 @@ module _ (given : Setting) where
             let none : 4096 - (env v_scanned + 1) ≡ 0 = omega arith in
             let all : scan user (env 11) 0 4096 ≡ is_long =
             x.0.goes_on ∙ scan-on_at user (env 11) (env v_scanned) x.0.below x.2.inside (byte_test x.2 false x.3) ∙ scan-long user (env 11) (env v_scanned + 1) (4096 - (env v_scanned + 1)) none in
-            (land given) Scan Long refl tt user env (landed user env long_blocks s (next given) t.1 n.describes) ((relink given user env) Full Long p.user (λ z. z) l.pc_is l.break_is l) ((part-scans given user env) x.0.has_path ∙ scan-result env user is_long all, (path-call given user env) x.0.has_path)
+            (land given) Scan Long refl tt user env (landed user env long_blocks s (next given) t.1 n.describes) ((relink given user env) Full Long p.user (λ z. z) l.pc_is l.break_is l) ((part-scans given user env) x.0.has_path ∙ scan-result env user is_long all)
 
         enters : (n : (Into given user env) full_blocks) → In n.block.kind (path_long_gate ∷ []) → (Goal given) Scan
         enters n (inl e) = too_long n e

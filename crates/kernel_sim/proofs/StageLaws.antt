@@ -1,5 +1,5 @@
 -- What a step from any stage is made of: the setting of a step, and what all stages use.
-use Rattle.std.proofs.Common.{◌≡◌, ◌≢◌, ℕ, ◌+◌, ◌-◌, ◌%◌, ◌^◌, ◌<◌, ◌≤◌, ◌==◌, Bool, true, false, inl, inr, Option, Some, None, List, [], ◌∷◌, refl, ap, sym, subst, ◌∙◌, arith, if◌then◌else◌}
+use Rattle.std.proofs.Common.{◌≡◌, ℕ, ◌+◌, ◌-◌, ◌%◌, ◌^◌, ◌<◌, ◌≤◌, ◌==◌, Bool, true, false, inl, inr, Option, Some, None, List, [], ◌∷◌, refl, ap, sym, subst, ◌∙◌, arith, if◌then◌else◌}
 use Rattle.std.specs.Prelude.{slice_index, not, min}
 use Rattle.std.proofs.lemmas.Bool.{false≢true, and_parts}
 use Rattle.rv_decode.specs.Alignment.{instruction_alignment}
@@ -17,7 +17,7 @@ use Rattle.kernel_steps.specs.Successors.{reg, successors}
 use Rattle.kernel_steps.specs.Blocks.{test, Here, Enters, Moves, implies, same}
 use Rattle.kernel_code.specs.Kinds.{may_follow}
 use Rattle.kernel_code.specs.Kernel.{kernel, blocks}
-use Rattle.plain_machine.specs.KernelPart.{gives, breaks, break_after, posts, scans, with_path}
+use Rattle.plain_machine.specs.KernelPart.{gives, posts, scans, with_path}
 use Rattle.kernel_sim.specs.Steps.{follows}
 use Rattle.kernel_sim.proofs.Told.{Told}
 use Rattle.kernel_sim.specs.Phases.{phase_from, kind_now, kind_of}
@@ -29,7 +29,7 @@ use Rattle.kernel_steps.proofs.Rebase.{with_var, fresh, learn_reg}
 use Rattle.kernel_sim.proofs.Decide.{Answer, part_of, call_tree, tree-part, decide, decide-right, same_answer, answer-path}
 use Rattle.kernel_steps.proofs.Tests.{blocks_all-at, starts-at}
 use Rattle.kernel_sim.proofs.Gates.{all_st, one-st, gate_ok, gates_right, passes_ok, passes_right, all_at, next-pc, is_open, not-open, start-here, fill_at, filled, all_avoid6}
-use Rattle.kernel_code.specs.Numbers.{v_first_break, v_cause, v_break, v_pc, v_word0, v_word1, v_word2, v_word3, v_word4, v_word5}
+use Rattle.kernel_code.specs.Numbers.{v_first_break, v_cause, v_pc, v_word0, v_word1, v_word2, v_word3, v_word4, v_word5}
 use Rattle.kernel_code.specs.Places.{pc_path_passed}
 use Rattle.kernel_sim.proofs.PlaceLaws.{kind-by-place, placed, low-kept}
 
@@ -220,13 +220,6 @@ module _ (given : Setting) where
 
     pub same-count : (pc : ℕ) → (pc == pc_path_passed) ≡ false → (if pc == pc_path_passed then min (p.scanned + 1) (2 ^ 32 - 1) else p.scanned) ≡ p.scanned
     same-count pc e = rw e refl
-
-    -- brk has no path
-    pub path-call : direct env ≡ scans → env 17 ≢ 214
-    path-call x e = let q = sym brk_is ∙ x in cc
-      where
-        brk_is : direct env ≡ breaks (break_after (env 10) (env v_break) (env v_first_break))
-        brk_is = rw e refl
 
     pub to_speak : (w : TrapIs p env) → (env v_cause == 8) ≡ false → Says p.text env × (p.text.posted ≡ 0)
     to_speak (inl e) f = absurd (false≢true (sym f ∙ ap (λ z. z == 8) e))

@@ -86,9 +86,9 @@ module _ (p : Phase) (sys : System) where
   local i = go i.stage i.staged i.links i.extra
     where
       go : (st : Stage) → stage_kind st ≡ Local → Links st p.user i.env → Extra st p i.user i.env → PartIs Local p sys.bus
-      go NoCall e l x = (_, inl (part-in NoCall i.env i.user _ i.here.describes.memory.user_is l l.break_is x.0))
-      go Outside e l x = (_, inl (part-in Outside i.env i.user _ i.here.describes.memory.user_is l l.break_is x.0))
-      go Long e l x = (_, inl (part-in Long i.env i.user _ i.here.describes.memory.user_is l l.break_is x.0))
+      go NoCall e l x = (_, inl (part-in NoCall i.env i.user _ i.here.describes.memory.user_is l l.break_is x))
+      go Outside e l x = (_, inl (part-in Outside i.env i.user _ i.here.describes.memory.user_is l l.break_is x))
+      go Long e l x = (_, inl (part-in Long i.env i.user _ i.here.describes.memory.user_is l l.break_is x))
       go Breaking e l x = (_, inr (break-part p.user.regs sys.bus.user p.user.brk p.user.first_break (sym (l.regs_are 17 (omega arith)) ∙ x)))
       go st e l x = cc
 
