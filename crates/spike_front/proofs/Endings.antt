@@ -1,5 +1,5 @@
 -- From how a run on the direct machine ended to what the top call says of it.
-use Rattle.std.proofs.Common.{◌≡◌, ◌≤◌, ◌<◌, ◌+◌, ◌++◌, ◌⊎◌, ◌↔◌, inl, inr, ℕ, true, false, List, [], length, Option, Some, None, refl, ap, sym, subst, ◌∙◌, arith}
+use Rattle.std.proofs.Common.{◌≡◌, ◌≤◌, ◌<◌, ◌+◌, ◌↔◌, inl, inr, ℕ, true, false, List, [], length, Option, Some, None, refl, ap, sym, subst, ◌∙◌, arith}
 use Rattle.folder_tree.specs.Tree.{Tree}
 use Rattle.plain_machine.specs.Direct.{World, DirectState, PlainState, Machine, running, dying, ended, direct_after, direct_after-zero, direct_start, status_of, step_puts, is_built, Tells, IsAt, HasRoomFor}
 use Rattle.plain_machine.specs.declared.plain.PlainFault.TheVariants.{FileFault as FileStop, InputFault as InputStop, ConsoleFault as ConsoleStop, OutOfMemory as MemoryStop, NotBuilt as NotBuiltStop}

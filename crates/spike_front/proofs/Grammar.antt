@@ -3,7 +3,8 @@ use Rattle.std.proofs.Common.{◌≡◌, ◌∙◌, ℕ, zero, suc, ◌+◌, ◌
 use Rattle.std.proofs.Math.ListN.{drop_of_length-le}
 use Rattle.std.proofs.lemmas.List.{drop-drop}
 use Rattle.std.specs.Prelude.{slice_get, bytes_eq, codes, ok_or}
-use Rattle.spike_front.specs.Words.{asm_words, behind_options, command_of, greatest_limit, kernel_words, is_option, is_unbuilt_name, number_within, option_fault, option_value, plain_file, plain_words, limit_value, with_value}
+use Rattle.fe_base.specs.Limits.{greatest_step_limit}
+use Rattle.spike_front.specs.Words.{asm_words, behind_options, command_of, kernel_words, is_option, is_unbuilt_name, number_within, option_fault, option_value, plain_file, plain_words, limit_value, with_value}
 use Rattle.spike_front.specs.declared.words.UsageKind.TheVariants.{UnknownCommand, UnknownOption, BadNumber}
 use Rattle.spike_front.specs.declared.words.WordFault.{WordFault}
 use Rattle.spike_front.specs.declared.words.WordFault.TheVariants.{Usage, NotBuilt}
@@ -28,11 +29,11 @@ copied words copy new all i word here grown known =
     ∙ known
 
 -- a value that is a number, and one that is none
-pub value_given : (words : List (List ℕ)) (at n : ℕ) (word : List ℕ) → slice_get words at ≡ Some word → number_within 1 greatest_limit word ≡ Some n
+pub value_given : (words : List (List ℕ)) (at n : ℕ) (word : List ℕ) → slice_get words at ≡ Some word → number_within 1 greatest_step_limit word ≡ Some n
     → limit_value at (drop at words) ≡ Ok n
 value_given words at n word here number = ap (limit_value at) (drop-word words at word here) ∙ ap (λ (o : Option ℕ). ok_or o (Usage BadNumber at)) number
 
-pub value_refused : (words : List (List ℕ)) (at : ℕ) (word : List ℕ) → slice_get words at ≡ Some word → number_within 1 greatest_limit word ≡ None
+pub value_refused : (words : List (List ℕ)) (at : ℕ) (word : List ℕ) → slice_get words at ≡ Some word → number_within 1 greatest_step_limit word ≡ None
     → limit_value at (drop at words) ≡ Err (Usage BadNumber at)
 value_refused words at word here number = ap (limit_value at) (drop-word words at word here) ∙ ap (λ (o : Option ℕ). ok_or o (Usage BadNumber at)) number
 

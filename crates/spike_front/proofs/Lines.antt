@@ -1,6 +1,5 @@
 -- The lines of words, from one word to the next.
-use Rattle.std.proofs.Common.{◌≡◌, ◌∙◌, ◌<◌, ◌≤◌, ◌+◌, ◌-◌, ◌++◌, ℕ, suc, List, [], ◌∷◌, length, drop, get_or, refl, ap, sym, add-one, append_assoc, append-nil, arith, drop-cons, length-drop}
-use Rattle.std.specs.Prelude.{slice_index_or}
+use Rattle.std.proofs.Common.{◌≡◌, ◌∙◌, ◌<◌, ◌≤◌, ◌+◌, ◌-◌, ◌++◌, ℕ, List, [], ◌∷◌, length, drop, get_or, refl, ap, sym, add-one, append_assoc, append-nil, arith, drop-cons, length-drop}
 use Rattle.fe_base.specs.Digits.{hexadecimal}
 use Rattle.spike_front.specs.Listings.{word_lines, word_of}
 

@@ -1,15 +1,17 @@
 -- From a plan that was made to what is said of a listing.
-use Rattle.std.proofs.Common.{◌≡◌, ◌∙◌, ◌⊎◌, ◌++◌, inl, inr, ℕ, List, Option, Some, Ok, refl, sym, ap, subst}
+use Rattle.std.proofs.Common.{◌≡◌, ◌⊎◌, ◌++◌, inl, inr, ℕ, List, Option, Some, Result, Ok, Err, sym, ap, subst}
 use Rattle.folder_tree.specs.Tree.{Tree, IsWellFormed}
 use Rattle.spike_front.specs.Answers.{IsStop, stage_of}
 use Rattle.spike_front.specs.Listings.{Listed, Listing, Lists, kernel_listing}
-use Rattle.spike_front.specs.Plans.{AsksListing, IsPlan, Planned, Plans, plan_of, put}
+use Rattle.spike_front.specs.Plans.{AsksListing, IsPlan, IsPlanFor, MayPut, plan_of, put}
 use Rattle.spike_front.specs.Words.{command_of}
 use Rattle.spike_front.specs.declared.answer.Answer.{Answer}
 use Rattle.spike_front.specs.declared.answer.Answer.TheVariants.{ConsoleFault, Done}
 use Rattle.spike_front.specs.declared.plan.Plan.{Plan}
-use Rattle.spike_front.specs.declared.plan.Plan.TheVariants.{Refuse, Put, Run}
-use Rattle.spike_front.specs.declared.words.Command.TheVariants.{Kernel}
+use Rattle.spike_front.specs.declared.plan.Plan.TheVariants.{Put}
+use Rattle.spike_front.specs.declared.words.Command.{Command}
+use Rattle.spike_front.specs.declared.words.Command.TheVariants.{Plain, Kernel, Asm}
+use Rattle.spike_front.specs.declared.words.WordFault.{WordFault}
 use Rattle.spike_front.proofs.PlanFacts.{same_listing}
 use Rattle.spike_front.proofs.Stages.{other_stage}
 
@@ -24,6 +26,13 @@ plan_asked words listing told plan kernel tree (inr (t, plans)) = subst (IsPlan 
 -- a text that was made lists the listing
 pub text_lists : (listing : Listing) (text : List ℕ) → IsPlan (Put text) (put listing) → Lists listing text
 text_lists listing text (l, planned, lists) = subst (λ (m : Listing). Lists m text) (sym (same_listing listing l planned)) lists
+
+-- a text that was made is one that the command may put
+pub put_may : (asked : Result Command WordFault) (words : List (List ℕ)) (text : List ℕ) → IsPlanFor asked words (Put text) → MayPut asked text
+put_may (Ok (Plain limit file)) words text kind = kind
+put_may (Ok Kernel) words text kind = text_lists kernel_listing text kind
+put_may (Ok (Asm file)) words text kind = kind
+put_may (Err fault) words text kind = cc
 
 -- a text was put whole, or the console is as it was
 pub listed_put : (listing : Listing) (text : List ℕ) (answer : Answer) {before after : Option (List ℕ)} → Lists listing text

@@ -1,18 +1,18 @@
 -- What a plan that was made says of the words' command.
-use Rattle.std.proofs.Common.{◌≡◌, ◌∙◌, ◌<◌, ◌≤◌, ◌⊎◌, ◌++◌, inl, inr, ℕ, Bool, true, false, nat_le, if◌then◌else◌, List, [], drop, length, Option, Some, None, IsSome, IfOk, Result, Ok, Err, refl, ap, sym, subst, arith}
+use Rattle.std.proofs.Common.{◌≡◌, ◌∙◌, ◌<◌, ◌⊎◌, inl, inr, ℕ, Bool, true, false, nat_le, if◌then◌else◌, List, drop, length, Option, Some, None, IsSome, IfOk, Result, Ok, Err, refl, ap, sym, subst, arith}
 use Rattle.fe_base.specs.Limits.{assembly_file_limit, main_vars_limit}
 use Rattle.fe_base.specs.WordLists.{main_vars_length}
 use Rattle.folder_tree.specs.Tree.{Tree}
-use Rattle.elf_loader.specs.ElfFile.{IsFit, fault_of, image_of}
+use Rattle.elf_loader.specs.ElfFile.{fault_of, image_of}
 use Rattle.elf_loader.specs.declared.fault.ElfFault.{ElfFault}
 use Rattle.elf_loader.specs.declared.image.Image.{Image}
 use Rattle.asm_items.specs.ItemMeaning.{Part, assembled}
 use Rattle.asm_items.specs.declared.fault.AsmFault.{AsmFault}
 use Rattle.asm_items.specs.declared.fault.AsmFault.TheVariants.{UnknownLabel, LabelTwice, OutOfReach, OutOfMemory as NoMemory}
 use Rattle.asm_text.specs.Texts.{Found, text_items}
-use Rattle.spike_front.specs.Answers.{stage_of, words_refused, file_refused, IsRefusal, IsWordsRefusal}
-use Rattle.spike_front.specs.Listings.{Listing, Lists, kernel_listing}
-use Rattle.spike_front.specs.Plans.{AsksListing, Planned, refuse, put, run, planned_args, planned_image, planned_file, planned_run, planned_items, planned_text, planned_source, planned_command, named_file, answer_of_fault, refusal_of, words_refusal, AreTooLong, HasLimit, IsListing, IsPlan, IsPlanFor, NamesNone}
+use Rattle.spike_front.specs.Answers.{IsRunAnswer, IsStop, IsWordsRefusal, Yields}
+use Rattle.spike_front.specs.Listings.{Listing, kernel_listing}
+use Rattle.spike_front.specs.Plans.{AsksListing, Planned, refuse, put, run, planned_image, planned_file, planned_items, planned_text, planned_source, planned_command, named_file, answer_of_fault, refusal_of, AreTooLong, HasLimit, IsListing, IsPlan, IsPlanFor, MayAnswer, NamesNone}
 use Rattle.spike_front.specs.Words.{IsSound, command_of, first_count}
 use Rattle.spike_front.specs.declared.plan.Plan.{Plan}
 use Rattle.spike_front.specs.declared.plan.Plan.TheVariants.{Refuse, Put, Run}
@@ -21,8 +21,8 @@ use Rattle.spike_front.specs.declared.words.Command.TheVariants.{Plain, Kernel, 
 use Rattle.spike_front.specs.declared.words.WordFault.{WordFault}
 use Rattle.spike_front.specs.declared.words.WordFault.TheVariants.{Usage as WordUsage, NotBuilt as WordNotBuilt}
 use Rattle.spike_front.specs.declared.answer.Answer.{Answer}
-use Rattle.spike_front.specs.declared.answer.Answer.TheVariants.{ArgsTooLong, BadAsm, BadElf, NoProgram}
-use Rattle.spike_front.proofs.Stages.{words_refusal_of}
+use Rattle.spike_front.specs.declared.answer.Answer.TheVariants.{ArgsTooLong, BadAsm, Done}
+use Rattle.spike_front.proofs.Stages.{stop_of_run, stop_yields}
 
 -- assembly text is never run
 choice_not_run : (b : Bool) (p : Planned) (answer : Answer) (i : Image) (a : List (List ℕ)) (n : ℕ) → (p ≡ run i a n → ⊥) → (if b then p else refuse answer) ≡ run i a n → ⊥
@@ -90,6 +90,44 @@ put_is_listing (Ok (Plain limit file)) words text kind = kind
 put_is_listing (Ok Kernel) words text kind = tt
 put_is_listing (Ok (Asm file)) words text kind = tt
 put_is_listing (Err fault) words text kind = cc
+
+-- what is answered of a plan is one of its command's answers
+pub refusal_may : (asked : Result Command WordFault) (words : List (List ℕ)) (a : Answer) → IsPlanFor asked words (Refuse a) → MayAnswer asked a
+refusal_may (Ok (Plain limit file)) words a kind = inl kind.0
+refusal_may (Ok Kernel) words a kind = cc
+refusal_may (Ok (Asm file)) words a kind = inl kind.0
+refusal_may (Err fault) words a kind = cc
+
+pub listing_may : (asked : Result Command WordFault) (words : List (List ℕ)) (text : List ℕ) (a : Answer) → IsPlanFor asked words (Put text) → (a ≡ Done) ⊎ Yields a → MayAnswer asked a
+listing_may (Ok (Plain limit file)) words text a kind is = absurd kind
+listing_may (Ok Kernel) words text a kind is = is
+listing_may (Ok (Asm file)) words text a kind is = inr is
+listing_may (Err fault) words text a kind is = cc
+
+pub run_may : (asked : Result Command WordFault) (words : List (List ℕ)) (i : Image) (args : List (List ℕ)) (n : ℕ) (a : Answer) → IsPlanFor asked words (Run i args n) → IsRunAnswer a → MayAnswer asked a
+run_may (Ok (Plain limit file)) words i args n a kind is = inr is
+run_may (Ok Kernel) words i args n a kind is = cc
+run_may (Ok (Asm file)) words i args n a kind is = absurd kind
+run_may (Err fault) words i args n a kind is = cc
+
+-- and so is what stops it
+pub stop_may : (asked : Result Command WordFault) (a : Answer) → ((fault : WordFault) → asked ≡ Err fault → ⊥) → IsStop a → MayAnswer asked a
+stop_may (Ok (Plain limit file)) a read stop = inr (stop_of_run a stop)
+stop_may (Ok Kernel) a read stop = inr (stop_yields a stop)
+stop_may (Ok (Asm file)) a read stop = inr (inr (stop_yields a stop))
+stop_may (Err fault) a read stop = absurd (read fault refl)
+
+-- a command with a limit counts its steps
+pub limit_counts : (asked : Result Command WordFault) (words : List (List ℕ)) (limit : ℕ) → command_of words ≡ asked → HasLimit words limit → first_count asked ≡ Some 0
+limit_counts asked words limit read has = ap first_count (sym read ∙ has.1)
+
+-- and puts no listing
+pub limit_not_listing : (asked : Result Command WordFault) (words : List (List ℕ)) (limit : ℕ) → command_of words ≡ asked → HasLimit words limit → IsListing asked → ⊥
+limit_not_listing asked words limit read has listing = subst IsListing (sym read ∙ has.1) listing
+
+-- words have one limit
+pub one_limit : (words : List (List ℕ)) (n m : ℕ) → HasLimit words n → HasLimit words m → n ≡ m
+one_limit words n m one other = let same : Ok (Plain n one.0) ≡ Ok (Plain m other.0) = sym one.1 ∙ other.1 in cc
 
 -- a refusal of words is that of what was read of them
 pub refused_words : (asked : Result Command WordFault) (words : List (List ℕ)) (a : Answer) → IsPlanFor asked words (Refuse a) → IsWordsRefusal a → refusal_of asked ≡ Some a

@@ -1,9 +1,9 @@
 -- From what was read of the words and of the file to what is done.
-use Rattle.std.proofs.Common.{◌≡◌, ◌∙◌, ◌<◌, ◌≤◌, ℕ, nat_le, List, [], drop, length, Option, Some, None, Result, Ok, Err, IfOk, ap}
+use Rattle.std.proofs.Common.{◌≡◌, ◌∙◌, ◌<◌, ◌≤◌, ℕ, nat_le, List, [], drop, length, Option, Some, Result, Ok, Err, IfOk, ap}
 use borrow.Author.Tests.{le-leb}
 use Rattle.std.proofs.lemmas.Bool.{lt-leb}
 use Rattle.std.proofs.lemmas.Option.{get_or_from_slice_get}
-use Rattle.std.specs.Prelude.{slice_get, slice_index_or}
+use Rattle.std.specs.Prelude.{slice_get}
 use Rattle.fe_base.specs.Limits.{assembly_file_limit, elf_file_limit}
 use Rattle.folder_tree.specs.Tree.{Tree}
 use Rattle.elf_loader.specs.ElfFile.{fault_of, fault_of-too_large}

@@ -1,13 +1,13 @@
 -- Which answers are of which class, by where the work stands.
-use Rattle.std.proofs.Common.{◌≡◌, ◌≤◌, ◌++◌, ◌⊎◌, inl, inr, ℕ, List, Option, Some, refl, ap, sym, subst, ◌∙◌}
+use Rattle.std.proofs.Common.{◌≡◌, ◌++◌, ◌⊎◌, inl, inr, ℕ, List, Option, Some, refl, ap, sym, subst, ◌∙◌}
 use Rattle.plain_machine.specs.declared.plain.PlainFault.TheVariants.{FileFault as FileStop, InputFault as InputStop, ConsoleFault as ConsoleStop, OutOfMemory as MemoryStop, NotBuilt as NotBuiltStop}
 use Rattle.plain_machine.specs.declared.plain.PlainEnd.{PlainEnd}
 use Rattle.plain_machine.specs.declared.plain.PlainEnd.TheVariants.{Exited as EndExited, StepsSpent as EndSpent, Fault as EndFault}
 use Rattle.spike_front.specs.declared.answer.Answer.{Answer}
-use Rattle.spike_front.specs.declared.answer.Answer.TheVariants.{FileFault, OutOfMemory, ReportFault}
+use Rattle.spike_front.specs.declared.answer.Answer.TheVariants.{ReportFault}
 use Rattle.spike_front.specs.declared.words.WordFault.{WordFault}
 use Rattle.spike_front.specs.declared.words.WordFault.TheVariants.{Usage, NotBuilt}
-use Rattle.spike_front.specs.Answers.{Stage, words_refused, file_refused, run_made, work_stopped, stream_failed, report_failed, stage_of, IsEarly, IsRefusal, IsRunAnswer, IsSaid, IsStop, IsWordsRefusal, Yields}
+use Rattle.spike_front.specs.Answers.{Stage, stage_of, IsEarly, IsRefusal, IsRunAnswer, IsSaid, IsStop, IsWordsRefusal, Yields}
 use Rattle.spike_front.specs.Causes.{RoseFor}
 use Rattle.spike_front.specs.Plans.{Planned, answer_of_fault, refuse}
 use Rattle.spike_front.specs.Report.{line_of, Reported}

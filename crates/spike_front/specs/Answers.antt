@@ -1,7 +1,9 @@
 -- Where the work stands as an answer comes, and the classes of answers that the contracts speak of.
 use Rattle.std.specs.Prelude.{◌≡◌, ◌⊎◌, ◌==◌, if◌then◌else◌}
 use Rattle.spike_front.specs.declared.answer.Answer.{Answer}
-use Rattle.spike_front.specs.declared.answer.Answer.TheVariants.{Done, Exited, Usage, NoProgram, BadElf, ArgsTooLong, BadAsm, StepsSpent, FileFault, InputFault, ConsoleFault, ReportFault, OutOfMemory, NotBuilt}
+use Rattle.spike_front.specs.declared.answer.Answer.TheVariants.{Done, Exited, Usage, NoProgram, BadElf, ArgsTooLong}
+use Rattle.spike_front.specs.declared.answer.Answer.TheVariants.{BadAsm, StepsSpent, FileFault, InputFault}
+use Rattle.spike_front.specs.declared.answer.Answer.TheVariants.{ConsoleFault, ReportFault, OutOfMemory, NotBuilt}
 
 -- where the work stands: the words are refused, or the file with its arguments; a listing was put; a run has gone to
 -- its end, to its limit or to a step that is not built; the folder failed or there was no memory; the input or the

@@ -1,6 +1,6 @@
 -- What the commands `kernel` and `asm` put on the console: the text of the kernel's items, or the words of assembly
 -- text.
-use Rattle.std.specs.Prelude.{◌≡◌, ◌⊎◌, ℕ, ◌+◌, ◌*◌, ◌^◌, List, [], ◌∷◌, ◌++◌, length, Option, Some, Ok}
+use Rattle.std.specs.Prelude.{◌≡◌, ◌⊎◌, ℕ, ◌+◌, ◌*◌, List, [], ◌∷◌, ◌++◌, length, Option, Some, Ok}
 use Rattle.fe_base.specs.Digits.{hexadecimal}
 use Rattle.fe_base.specs.Outside.{PutSuits}
 use Rattle.asm_items.specs.ItemMeaning.{Part, Spells}
@@ -35,12 +35,20 @@ abbrev pub Lists : Listing → List ℕ → Type 0
 Lists kernel_listing text = PrintsAll kernel text × (text_items text ≡ Ok (kernel, numbers 1 (length kernel)))
 Lists (code_listing parts) text = (bytes : List ℕ) × Spells parts bytes × (text ≡ word_lines bytes)
 
+-- a console that tells what it holds has grown by a text of this kind
+abbrev pub GrewBy : (List ℕ → Type 0) → Option (List ℕ) → Option (List ℕ) → Type 0
+GrewBy Is before after = (held : List ℕ) → before ≡ Some held
+    → (text : List ℕ) × Is text × (after ≡ Some (held ++ text))
+
+-- a console that tells what it holds holds the same
+abbrev pub IsKept : Option (List ℕ) → Option (List ℕ) → Type 0
+IsKept before after = (held : List ℕ) → before ≡ Some held → after ≡ Some held
+
 -- a listing has this answer and leaves the console so: Done where it has grown by a text that lists it, and else it is
 -- as it was
 pub record Listed (listing : Listing) (answer : Answer) (before after : Option (List ℕ)) : Type 0 where
-  pub done : answer ≡ Done → (held : List ℕ) → before ≡ Some held
-      → (text : List ℕ) × Lists listing text × (after ≡ Some (held ++ text))
-  pub kept : (answer ≡ Done → ⊥) → (held : List ℕ) → before ≡ Some held → after ≡ Some held
+  pub done : answer ≡ Done → GrewBy (Lists listing) before after
+  pub kept : (answer ≡ Done → ⊥) → IsKept before after
   pub answers : (answer ≡ Done) ⊎ Yields answer
 
 -- each text that lists this suits a sink with this room

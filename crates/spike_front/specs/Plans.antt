@@ -1,5 +1,6 @@
 -- What the words ask for, over a tree of files: a refusal, a listing, or a run.
-use Rattle.std.specs.Prelude.{◌≡◌, ◌<◌, ◌≤◌, ◌⊎◌, ℕ, ⊤, nat_le, if◌then◌else◌, List, [], drop, length, slice_index_or, Option, Some, None, Result, Ok, Err}
+use Rattle.std.specs.Prelude.{◌≡◌, ◌<◌, ◌≤◌, ◌⊎◌, ℕ, ⊤, nat_le, if◌then◌else◌, List, [], drop, length, slice_index_or}
+use Rattle.std.specs.Prelude.{Option, Some, None, Result, Ok, Err}
 use Rattle.fe_base.specs.Limits.{assembly_file_limit, main_vars_limit}
 use Rattle.fe_base.specs.WordLists.{main_vars_length}
 use Rattle.folder_tree.specs.Tree.{Tree, IsWellFormed}
@@ -8,11 +9,12 @@ use Rattle.elf_loader.specs.declared.image.Image.{Image}
 use Rattle.elf_loader.specs.declared.fault.ElfFault.{ElfFault}
 use Rattle.asm_items.specs.ItemMeaning.{Part, assembled}
 use Rattle.asm_items.specs.declared.fault.AsmFault.{AsmFault}
-use Rattle.asm_items.specs.declared.fault.AsmFault.TheVariants.{UnknownLabel, LabelTwice, OutOfReach, OutOfMemory as NoMemory}
+use Rattle.asm_items.specs.declared.fault.AsmFault.TheVariants.{UnknownLabel, LabelTwice, OutOfReach}
+use Rattle.asm_items.specs.declared.fault.AsmFault.TheVariants.{OutOfMemory as NoMemory}
 use Rattle.asm_text.specs.Faults.{number_of}
 use Rattle.asm_text.specs.Texts.{Found, text_items}
 use Rattle.spike_front.specs.Words.{command_of, usage_number}
-use Rattle.spike_front.specs.Answers.{IsRefusal, file_refused, stage_of}
+use Rattle.spike_front.specs.Answers.{IsRefusal, IsRunAnswer, Yields, file_refused, stage_of}
 use Rattle.spike_front.specs.FoundFiles.{file_named}
 use Rattle.spike_front.specs.Listings.{Listing, Lists, code_listing, kernel_listing}
 use Rattle.spike_front.specs.declared.words.Command.{Command}
@@ -20,7 +22,8 @@ use Rattle.spike_front.specs.declared.words.Command.TheVariants.{Plain, Kernel, 
 use Rattle.spike_front.specs.declared.words.WordFault.{WordFault}
 use Rattle.spike_front.specs.declared.words.WordFault.TheVariants.{Usage as WordUsage, NotBuilt as WordNotBuilt}
 use Rattle.spike_front.specs.declared.answer.Answer.{Answer}
-use Rattle.spike_front.specs.declared.answer.Answer.TheVariants.{Usage, NoProgram, BadElf, ArgsTooLong, BadAsm, OutOfMemory, NotBuilt}
+use Rattle.spike_front.specs.declared.answer.Answer.TheVariants.{Done, Usage, NoProgram, BadElf, ArgsTooLong, BadAsm}
+use Rattle.spike_front.specs.declared.answer.Answer.TheVariants.{OutOfMemory, NotBuilt}
 use Rattle.spike_front.specs.declared.plan.Plan.{Plan}
 use Rattle.spike_front.specs.declared.plan.Plan.TheVariants.{Refuse, Put, Run}
 
@@ -121,6 +124,26 @@ IsListing (Ok Kernel) = ⊤
 IsListing (Ok (Asm file)) = ⊤
 IsListing (Err fault) = ⊥
 
+-- the text lists what some assembly file means
+abbrev pub ListsSource : List ℕ → Type 0
+ListsSource text = (source : List ℕ) × (parts : List Part)
+    × (planned_source (Some source) ≡ put (code_listing parts)) × Lists (code_listing parts) text
+
+-- a text that the words' command may put, whatever the folder holds: that of the kernel's items, or the words of some
+-- assembly file
+abbrev pub MayPut : Result Command WordFault → List ℕ → Type 0
+MayPut (Ok (Plain limit file)) text = ⊥
+MayPut (Ok Kernel) text = Lists kernel_listing text
+MayPut (Ok (Asm file)) text = ListsSource text
+MayPut (Err fault) text = ⊥
+
+-- the answers that a command may have, whatever the objects hold, but for a report that fails
+abbrev pub MayAnswer : Result Command WordFault → Answer → Type 0
+MayAnswer (Ok (Plain limit file)) answer = (stage_of answer ≡ file_refused) ⊎ IsRunAnswer answer
+MayAnswer (Ok Kernel) answer = (answer ≡ Done) ⊎ Yields answer
+MayAnswer (Ok (Asm file)) answer = (stage_of answer ≡ file_refused) ⊎ ((answer ≡ Done) ⊎ Yields answer)
+MayAnswer (Err fault) answer = answer ≡ answer_of_fault fault
+
 -- the words' command names no file, or they are no command
 abbrev pub NamesNone : Result Command WordFault → Type 0
 NamesNone (Ok (Plain limit file)) = ⊥
@@ -153,10 +176,10 @@ IsProgramPlan args limit (Put text) = ⊥
 IsProgramPlan args limit (Run image arguments most) =
     IsFit image × (main_vars_length arguments ≤ main_vars_limit) × (most ≡ limit)
 
--- a plan for an assembly file: a refusal of the file, or a text
+-- a plan for an assembly file: a refusal of the file, or the words of one
 abbrev pub IsSourcePlan : Plan → Type 0
 IsSourcePlan (Refuse answer) = (stage_of answer ≡ file_refused) × ((n : ℕ) → answer ≡ ArgsTooLong n → ⊥)
-IsSourcePlan (Put text) = ⊤
+IsSourcePlan (Put text) = ListsSource text
 IsSourcePlan (Run image args limit) = ⊥
 
 -- a plan for these words and what was read of them, whatever the folder holds

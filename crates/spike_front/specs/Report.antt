@@ -3,9 +3,13 @@ use Rattle.std.specs.Prelude.{◌≡◌, ℕ, ◌==◌, if◌then◌else◌, Lis
 use Rattle.std.specs.Fmt.{decimal}
 use Rattle.elf_loader.specs.Faults.{number_of}
 use Rattle.elf_loader.specs.declared.fault.ElfFault.{ElfFault}
-use Rattle.elf_loader.specs.declared.fault.ElfFault.TheVariants.{TooLarge, Short, Magic, Class, Order, Version, Kind, Machine, Flags, HeaderSize, Headers, Dynamic, Segment, Outside, Overlap, Entry}
+use Rattle.elf_loader.specs.declared.fault.ElfFault.TheVariants.{TooLarge, Short, Magic, Class, Order, Version, Kind}
+use Rattle.elf_loader.specs.declared.fault.ElfFault.TheVariants.{Machine, Flags, HeaderSize, Headers, Dynamic, Segment}
+use Rattle.elf_loader.specs.declared.fault.ElfFault.TheVariants.{Outside, Overlap, Entry}
 use Rattle.spike_front.specs.declared.answer.Answer.{Answer}
-use Rattle.spike_front.specs.declared.answer.Answer.TheVariants.{Done, Exited, Usage, NoProgram, BadElf, ArgsTooLong, BadAsm, StepsSpent, FileFault, InputFault, ConsoleFault, ReportFault, OutOfMemory, NotBuilt}
+use Rattle.spike_front.specs.declared.answer.Answer.TheVariants.{Done, Exited, Usage, NoProgram, BadElf, ArgsTooLong}
+use Rattle.spike_front.specs.declared.answer.Answer.TheVariants.{BadAsm, StepsSpent, FileFault, InputFault}
+use Rattle.spike_front.specs.declared.answer.Answer.TheVariants.{ConsoleFault, ReportFault, OutOfMemory, NotBuilt}
 
 -- the status of the process
 abbrev pub code_of : Answer → ℕ
@@ -53,7 +57,8 @@ places_of Entry = []
 abbrev pub line_of : Answer → Option ℕ → List ℕ
 line_of Done steps = []
 line_of (Exited status) steps = counted (codes "pkfe: exited " ++ decimal status) steps
-line_of (Usage kind place) steps = codes "pkfe: usage " ++ (decimal kind ++ (codes " at " ++ (decimal place ++ codes "\n")))
+line_of (Usage kind place) steps =
+    codes "pkfe: usage " ++ (decimal kind ++ (codes " at " ++ (decimal place ++ codes "\n")))
 line_of NoProgram steps = codes "pkfe: no program\n"
 line_of (BadElf fault) steps = codes "pkfe: bad elf " ++ (decimal (number_of fault) ++ (places_of fault ++ codes "\n"))
 line_of (ArgsTooLong n) steps = codes "pkfe: arguments need " ++ (decimal n ++ codes " bytes\n")

@@ -2,13 +2,19 @@
 use Rattle.std.specs.Prelude.{◌≡◌, ◌≢◌, [], ◌≤◌, ◌<◌, ◌↔◌, ◌⊎◌, ℕ, true, false, List, Option, Some, None}
 use Rattle.elf_loader.specs.declared.image.Image.{Image}
 use Rattle.folder_tree.specs.Tree.{Tree, IsWellFormed}
-use Rattle.plain_machine.specs.Direct.{World, Tells, DirectState, direct_after, direct_start, status_of, is_built, step_puts}
+use Rattle.plain_machine.specs.Direct.{World, Tells, DirectState, direct_after, direct_start, status_of, is_built}
+use Rattle.plain_machine.specs.Direct.{step_puts}
 use Rattle.plain_machine.specs.declared.plain.PlainFault.{PlainFault}
-use Rattle.plain_machine.specs.declared.plain.PlainFault.TheVariants.{FileFault as FileStop, InputFault as InputStop, ConsoleFault as ConsoleStop, OutOfMemory as MemoryStop, NotBuilt as NotBuiltStop}
+use Rattle.plain_machine.specs.declared.plain.PlainFault.TheVariants.{FileFault as FileStop, InputFault as InputStop}
+use Rattle.plain_machine.specs.declared.plain.PlainFault.TheVariants.{ConsoleFault as ConsoleStop}
+use Rattle.plain_machine.specs.declared.plain.PlainFault.TheVariants.{OutOfMemory as MemoryStop}
+use Rattle.plain_machine.specs.declared.plain.PlainFault.TheVariants.{NotBuilt as NotBuiltStop}
 use Rattle.plain_machine.specs.declared.plain.PlainEnd.{PlainEnd}
-use Rattle.plain_machine.specs.declared.plain.PlainEnd.TheVariants.{Exited as EndExited, StepsSpent as EndSpent, Fault as EndFault}
+use Rattle.plain_machine.specs.declared.plain.PlainEnd.TheVariants.{Exited as EndExited, StepsSpent as EndSpent}
+use Rattle.plain_machine.specs.declared.plain.PlainEnd.TheVariants.{Fault as EndFault}
 use Rattle.spike_front.specs.declared.answer.Answer.{Answer}
-use Rattle.spike_front.specs.declared.answer.Answer.TheVariants.{Exited, StepsSpent, FileFault, InputFault, ConsoleFault, OutOfMemory, NotBuilt}
+use Rattle.spike_front.specs.declared.answer.Answer.TheVariants.{Exited, StepsSpent, FileFault, InputFault}
+use Rattle.spike_front.specs.declared.answer.Answer.TheVariants.{ConsoleFault, OutOfMemory, NotBuilt}
 use Rattle.spike_front.specs.Answers.{IsEarly, IsRunAnswer, Yields}
 use Rattle.spike_front.specs.Plans.{plan_of, run}
 use Rattle.spike_front.specs.FoundFiles.{HasFiles}
@@ -25,7 +31,8 @@ abbrev pub case_of : World → Image → List (List ℕ) → ℕ → RunCase
 case_of w image args limit = record { world = w; image = image; args = args; limit = limit }
 
 -- the words ask for this run, and the objects tell its world, whose tree is well formed
-pub record Asks (words : List (List ℕ)) (c : RunCase) (input console : Option (List ℕ)) (tree : Option Tree) : Type 0 where
+pub record Asks (words : List (List ℕ)) (c : RunCase) (input console : Option (List ℕ)) (tree : Option Tree)
+    : Type 0 where
   pub formed : IsWellFormed c.world.tree
   pub told : Tells c.world input console tree
   pub planned : plan_of words c.world.tree ≡ run c.image c.args c.limit
@@ -42,7 +49,8 @@ pub record Leaves (w : World) (input console : Option (List ℕ)) (tree : Option
 
 -- a run has this answer after so many steps: it leaves what the direct run has there, and the answer says how that
 -- stands
-pub record Ran (c : RunCase) (answer : Answer) (steps : ℕ) (input console : Option (List ℕ)) (tree : Option Tree) : Type 0 where
+pub record Ran (c : RunCase) (answer : Answer) (steps : ℕ) (input console : Option (List ℕ)) (tree : Option Tree)
+    : Type 0 where
   pub contents : Leaves (state_after steps c).world input console tree
   pub within : steps ≤ c.limit
   pub earlier : (n : ℕ) → n < steps → status_of (state_after n c).machine ≡ None

@@ -1,11 +1,16 @@
 -- The words of the command line: which are a command, and where and how all others fail first.
-use Rattle.std.specs.Prelude.{ℕ, ⊤, ◌+◌, ◌<◌, ◌==◌, ◌&&◌, ◌||◌, not, nat_lt, nat_le, if◌then◌else◌, Bool, false, List, [], ◌∷◌, length, codes, bytes_eq, Option, Some, None, is_some, unwrap_or, ok_or, Result, Ok, Err}
+use Rattle.std.specs.Prelude.{ℕ, ⊤, ◌+◌, ◌<◌, ◌==◌, ◌&&◌, ◌||◌, not, nat_lt, nat_le, if◌then◌else◌, Bool, false, List}
+use Rattle.std.specs.Prelude.{[], ◌∷◌, length, codes, bytes_eq, Option, Some, None, is_some, unwrap_or, ok_or, Result}
+use Rattle.std.specs.Prelude.{Ok, Err}
 use Rattle.std.specs.Str.{all_ascii_digits}
 use Rattle.std.specs.Str.Parse.{digits_value}
+use Rattle.fe_base.specs.Limits.{default_step_limit, greatest_step_limit}
 use Rattle.spike_front.specs.declared.words.Command.{Command}
 use Rattle.spike_front.specs.declared.words.Command.TheVariants.{Plain, Kernel, Asm}
 use Rattle.spike_front.specs.declared.words.UsageKind.{UsageKind}
-use Rattle.spike_front.specs.declared.words.UsageKind.TheVariants.{NoCommand, UnknownCommand, UnknownOption, OptionRepeated, ValueMissing, BadNumber, FileMissing, WordTooMany}
+use Rattle.spike_front.specs.declared.words.UsageKind.TheVariants.{NoCommand, UnknownCommand, UnknownOption}
+use Rattle.spike_front.specs.declared.words.UsageKind.TheVariants.{OptionRepeated, ValueMissing, BadNumber, FileMissing}
+use Rattle.spike_front.specs.declared.words.UsageKind.TheVariants.{WordTooMany}
 use Rattle.spike_front.specs.declared.words.WordFault.{WordFault}
 use Rattle.spike_front.specs.declared.words.WordFault.TheVariants.{Usage, NotBuilt}
 
@@ -19,14 +24,6 @@ usage_number ValueMissing = 5
 usage_number BadNumber = 6
 usage_number FileMissing = 9
 usage_number WordTooMany = 10
-
--- the limit of steps, where the words give none
-abbrev pub default_limit : ℕ
-default_limit = 1000000000
-
--- the greatest limit of steps that the words may give
-abbrev pub greatest_limit : ℕ
-greatest_limit = 1000000000000
 
 -- a name of a command that is not built
 abbrev pub is_unbuilt_name : List ℕ → Bool
@@ -50,7 +47,7 @@ number_within least most word =
 -- the limit that the first of these words gives; it stands at a place, or is missing there
 abbrev pub limit_value : ℕ → List (List ℕ) → Result ℕ WordFault
 limit_value place [] = Err (Usage ValueMissing place)
-limit_value place (value ∷ words) = ok_or (number_within 1 greatest_limit value) (Usage BadNumber place)
+limit_value place (value ∷ words) = ok_or (number_within 1 greatest_step_limit value) (Usage BadNumber place)
 
 -- why an option at a place is refused whatever its value: it is not built, there is none such, or it was given before
 abbrev pub option_fault : Option ℕ → ℕ → List ℕ → Option WordFault
@@ -68,7 +65,7 @@ option_value None place words = limit_value (place + 1) words
 -- `plain` with the first of these words, which stands at a place, as FILE
 abbrev pub plain_file : Option ℕ → ℕ → List (List ℕ) → Result Command WordFault
 plain_file limit place [] = Err (Usage FileMissing place)
-plain_file limit place (file ∷ words) = Ok (Plain (unwrap_or limit default_limit) place)
+plain_file limit place (file ∷ words) = Ok (Plain (unwrap_or limit default_step_limit) place)
 
 -- what is read behind a value, or the failure of that value
 abbrev pub with_value : Result ℕ WordFault → (ℕ → Result Command WordFault) → Result Command WordFault
@@ -82,11 +79,13 @@ plain_words limit place [] = plain_file limit place []
 plain_words limit place (word ∷ []) =
     if not (is_option word) then plain_file limit place (word ∷ [])
     else if bytes_eq word (codes "--") then plain_file limit (place + 1) []
-    else with_value (option_value (option_fault limit place word) place []) (λ value. plain_file (Some value) (place + 2) [])
+    else with_value (option_value (option_fault limit place word) place [])
+    (λ value. plain_file (Some value) (place + 2) [])
 plain_words limit place (word ∷ next ∷ words) =
     if not (is_option word) then plain_file limit place (word ∷ next ∷ words)
     else if bytes_eq word (codes "--") then plain_file limit (place + 1) (next ∷ words)
-    else with_value (option_value (option_fault limit place word) place (next ∷ words)) (λ value. plain_words (Some value) (place + 2) words)
+    else with_value (option_value (option_fault limit place word) place (next ∷ words))
+    (λ value. plain_words (Some value) (place + 2) words)
 
 -- where the words behind the options begin, of a command that has none: behind `--`, if that comes first
 abbrev pub behind_options : List (List ℕ) → Result ℕ WordFault

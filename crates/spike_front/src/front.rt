@@ -1,12 +1,14 @@
 // The top call: from the words to the answer.
-ghost use Rattle.std.specs.Prelude.{◌≡◌, ◌≢◌, [], ◌+◌, ◌++◌, ◌⊎◌, ℕ, List, Option, Some, None, Ok, IsSome, length};
+ghost use Rattle.std.specs.Prelude.{◌≡◌, ◌≢◌, ◌≤◌, [], ◌+◌, ◌++◌, ◌⊎◌, ℕ, List, Option, Some, None, Ok, IsSome, length};
+ghost use Rattle.fe_base.specs.Limits.{report_line_limit};
 ghost use Rattle.fe_base.specs.Outside.{capacity, PutSuits};
 ghost use Rattle.folder_tree.specs.Tree.{Tree, IsWellFormed};
 ghost use Rattle.plain_machine.specs.Direct.{HasRoomFor, step_puts};
 ghost use Rattle.spike_front.specs.Answers.{IsEarly, IsRefusal, IsSaid, IsStop, IsWordsRefusal};
 ghost use Rattle.spike_front.specs.Causes.{RoseFor};
-ghost use Rattle.spike_front.specs.Listings.{Listed, Listing, ListingSuits};
-ghost use Rattle.spike_front.specs.Plans.{AreTooLong, AsksListing, HasLimit, IsListing, NamesNone, Plans, plan_of, put, refuse, words_refusal};
+ghost use Rattle.spike_front.specs.Listings.{GrewBy, IsKept, Listed, Listing, ListingSuits};
+ghost use Rattle.spike_front.specs.Plans.{AreTooLong, AsksListing, HasLimit, IsListing, MayAnswer, MayPut};
+ghost use Rattle.spike_front.specs.Plans.{NamesNone, Plans, plan_of, put, refuse, words_refusal};
 ghost use Rattle.spike_front.specs.FoundFiles.{HasFiles, StaysOrOpens};
 ghost use Rattle.spike_front.specs.Report.{Reported};
 ghost use Rattle.spike_front.specs.Runs.{Asks, IsTimely, Ran, RunCase, state_after};
@@ -60,11 +62,14 @@ pub fn front<I: Source, C: Sink, R: Sink, F: Folder>(
     ensures refused_untouched { (t : Tree) (a : Answer) → Plans words.now t (refuse a) (F.tree folder.old)
         → (input.new ≡ input.old) × (console.new ≡ console.old) × HasFiles t (F.tree folder.new) }
 
-    // Whatever the objects tell: what comes before a first step left input and console alone, and what is answered of
-    // the arguments' length and of the limit is so of the words. Of a tree that is told all is as it was, but that one
-    // of its files may be open once more. A report that is told has grown by exactly the line of the answer, with some
-    // number of steps: 0 for what comes before a first step of a run, none of a command that runs nothing, and the
-    // limit where that was spent. Done comes only of a command that puts a listing, and then the report was not called.
+    // Whatever the objects tell: each command has answers of its own, or its report fails. What comes before a first
+    // step left input and console alone, and what is answered of the arguments' length and of the limit is so of the
+    // words. Of a tree that is told all is as it was, but that one of its files may be open once more. A report that is
+    // told has grown by exactly the line of the answer: with a number of steps up to the limit where the command runs a
+    // program, 0 before its first step and the limit where that was spent, and with none where it puts a listing. Of
+    // such a command Done is answered exactly where its text was put: then the report was not called, and a console
+    // that is told has grown by a text that the command may put; else it is as it was.
+    ensures answers { MayAnswer (command_of words.now) result ⊎ (result ≡ Answer.ReportFault) }
     ensures early_untouched { IsEarly result → (input.new ≡ input.old) × (console.new ≡ console.old) }
     ensures too_long { (n : ℕ) → result ≡ Answer.ArgsTooLong n → AreTooLong words.now n }
     ensures spent { (n : ℕ) → result ≡ Answer.StepsSpent n → HasLimit words.now n }
@@ -72,14 +77,19 @@ pub fn front<I: Source, C: Sink, R: Sink, F: Folder>(
     ensures reported { (steps : Option ℕ) × Reported result steps (R.held report.old) (R.held report.new)
         × (IsEarly result → steps ≡ first_count (command_of words.now))
         × (IsListing (command_of words.now) → steps ≡ None)
+        × ((limit : ℕ) → HasLimit words.now limit → (n : ℕ) × (steps ≡ Some n) × (n ≤ limit))
         × ((n : ℕ) → result ≡ Answer.StepsSpent n → steps ≡ Some n) }
-    ensures done { result ≡ Answer.Done → IsListing (command_of words.now) × (report.new ≡ report.old) }
+    ensures done { result ≡ Answer.Done → IsListing (command_of words.now) × (report.new ≡ report.old)
+        × GrewBy (MayPut (command_of words.now)) (C.held console.old) (C.held console.new) }
+    ensures not_done { IsListing (command_of words.now) → (result ≡ Answer.Done → ⊥)
+        → IsKept (C.held console.old) (C.held console.new) }
 
-    // A listing is put whole, by one put, or the console is as it was. Done comes exactly where it was put. A steady
-    // console with room for it, and a steady folder, fail no listing.
+    // A listing is put whole or the console is as it was, and Done is answered exactly where it was put: no fault of
+    // the report takes its place. A steady console with room for it, and a steady folder, fail no listing.
     ensures listed { (listing : Listing) → AsksListing words.now listing (F.tree folder.old)
         → (answer : Answer) × Listed listing answer (C.held console.old) (C.held console.new)
-        × IsSaid answer result × Reported result None (R.held report.old) (R.held report.new)
+        × IsSaid answer result × (answer ≡ Answer.Done → result ≡ Answer.Done)
+        × Reported result None (R.held report.old) (R.held report.new)
         × RoseFor (answer ≡ Answer.ConsoleFault) (C.faults console.old) (C.faults console.new)
         × RoseFor (answer ≡ Answer.FileFault) (F.faults folder.old) (F.faults folder.new)
         × (C.steady console.old → ListingSuits listing (C.room console.old) → answer ≡ Answer.ConsoleFault → ⊥)
@@ -98,8 +108,8 @@ pub fn front<I: Source, C: Sink, R: Sink, F: Folder>(
         × IsTimely c answer steps
         × RoseFor (answer ≡ Answer.ConsoleFault) (C.faults console.old) (C.faults console.new)
         × RoseFor (answer ≡ Answer.FileFault) (F.faults folder.old) (F.faults folder.new)
-        × (C.steady console.old → HasRoomFor (capacity (C.held console.old) (C.room console.old)) (length (state_after (steps + 1) c).world.console)
-        → answer ≡ Answer.ConsoleFault → ⊥)
+        × (C.steady console.old → HasRoomFor (capacity (C.held console.old) (C.room console.old))
+        (length (state_after (steps + 1) c).world.console) → answer ≡ Answer.ConsoleFault → ⊥)
         × (F.steady folder.old → answer ≡ Answer.FileFault → ⊥)
         × ((IsStop answer → ⊥) → F.tree folder.new ≡ Some c.world.tree) }
 
@@ -113,7 +123,8 @@ pub fn front<I: Source, C: Sink, R: Sink, F: Folder>(
     // A steady folder, and a steady report with room for a line, fail no command.
     ensures file_steady { (t : Tree) → F.tree folder.old ≡ Some t → F.steady folder.old → result ≡ Answer.FileFault
         → ⊥ }
-    ensures report_steady { R.steady report.old → PutSuits (R.room report.old) 128 → result ≡ Answer.ReportFault → ⊥ }
+    ensures report_steady { R.steady report.old → PutSuits (R.room report.old) report_line_limit
+        → result ≡ Answer.ReportFault → ⊥ }
 {
     let ending = command(alloc, words, input, console, folder);
     put_report(ending, report)
@@ -143,22 +154,28 @@ fn command<I: Source, C: Sink, F: Folder>(
         → Listed listing result.answer (C.held console.old) (C.held console.new)
         × (C.steady console.old → ListingSuits listing (C.room console.old) → result.answer ≡ Answer.ConsoleFault → ⊥) }
     ensures listing { IsListing (command_of words.now) → result.steps ≡ None }
-    ensures done { result.answer ≡ Answer.Done → IsListing (command_of words.now) }
+    ensures counted { (limit : ℕ) → HasLimit words.now limit → (n : ℕ) × (result.steps ≡ Some n) × (n ≤ limit) }
+    ensures done { result.answer ≡ Answer.Done → IsListing (command_of words.now)
+        × GrewBy (MayPut (command_of words.now)) (C.held console.old) (C.held console.new) }
+    ensures not_done { IsListing (command_of words.now) → (result.answer ≡ Answer.Done → ⊥)
+        → IsKept (C.held console.old) (C.held console.new) }
     ensures ran { (c : RunCase) → Asks words.now c (I.left input.old) (C.held console.old) (F.tree folder.old)
         → (steps : ℕ) × (result.steps ≡ Some steps)
         × Ran c result.answer steps (I.left input.new) (C.held console.new) (F.tree folder.new)
         × (result.answer ≡ Answer.ConsoleFault → step_puts (state_after steps c).machine ≢ [])
-        × (C.steady console.old → HasRoomFor (capacity (C.held console.old) (C.room console.old)) (length (state_after (steps + 1) c).world.console)
-        → result.answer ≡ Answer.ConsoleFault → ⊥) }
+        × (C.steady console.old → HasRoomFor (capacity (C.held console.old) (C.room console.old))
+        (length (state_after (steps + 1) c).world.console) → result.answer ≡ Answer.ConsoleFault → ⊥) }
     ensures input { input.new ≡ input.old }
     ensures files { (t : Tree) → F.tree folder.old ≡ Some t → HasFiles t (F.tree folder.new) }
     ensures tree { (t : Tree) → IsWellFormed t → F.tree folder.old ≡ Some t → (IsStop result.answer → ⊥)
         → F.tree folder.new ≡ Some t }
+    ensures answers { MayAnswer (command_of words.now) result.answer }
     ensures no_report { result.answer ≡ Answer.ReportFault → ⊥ }
     ensures opens { (t : Tree) → IsWellFormed t → F.tree folder.old ≡ Some t → StaysOrOpens t (F.tree folder.new) }
     ensures too_long { (n : ℕ) → result.answer ≡ Answer.ArgsTooLong n → AreTooLong words.now n }
     ensures spent { (n : ℕ) → result.answer ≡ Answer.StepsSpent n → HasLimit words.now n × (result.steps ≡ Some n) }
-    ensures console_cause { RoseFor (result.answer ≡ Answer.ConsoleFault) (C.faults console.old) (C.faults console.new) }
+    ensures console_cause { RoseFor (result.answer ≡ Answer.ConsoleFault) (C.faults console.old)
+        (C.faults console.new) }
     ensures input_fault { result.answer ≡ Answer.InputFault → ⊥ }
     ensures file_cause { RoseFor (result.answer ≡ Answer.FileFault) (F.faults folder.old) (F.faults folder.new) }
     ensures steady { (t : Tree) → F.tree folder.old ≡ Some t → F.steady folder.old → result.answer ≡ Answer.FileFault
@@ -197,8 +214,7 @@ fn put_listing<C: Sink>(text: &Bytes, console: &mut C) -> Answer
     ensures answers { (result ≡ Answer.Done) ⊎ (result ≡ Answer.ConsoleFault) }
     ensures done { result ≡ Answer.Done → (held : List ℕ) → C.held console.old ≡ Some held
         → C.held console.new ≡ Some (held ++ text.now) }
-    ensures kept { (result ≡ Answer.Done → ⊥) → (held : List ℕ) → C.held console.old ≡ Some held
-        → C.held console.new ≡ Some held }
+    ensures kept { (result ≡ Answer.Done → ⊥) → IsKept (C.held console.old) (C.held console.new) }
     ensures cause { RoseFor (result ≡ Answer.ConsoleFault) (C.faults console.old) (C.faults console.new) }
     ensures steady { C.steady console.old → PutSuits (C.room console.old) (length text.now)
         → result ≡ Answer.ConsoleFault → ⊥ }
@@ -217,7 +233,7 @@ fn put_report<R: Sink>(ending: Ending, report: &mut R) -> Answer
     ensures done { ending.answer ≡ Answer.Done → (result ≡ Answer.Done) × (report.new ≡ report.old) }
     ensures reported { Reported result ending.steps (R.held report.old) (R.held report.new) }
     ensures cause { RoseFor (result ≡ Answer.ReportFault) (R.faults report.old) (R.faults report.new) }
-    ensures steady { R.steady report.old → PutSuits (R.room report.old) 128 → result ≡ ending.answer }
+    ensures steady { R.steady report.old → PutSuits (R.room report.old) report_line_limit → result ≡ ending.answer }
 {
     if let Answer::Done = ending.answer {
         return Answer::Done;

@@ -10,19 +10,26 @@
 // - `refusal`, `refused`, `refused_untouched`: The other refusals (no program, the file's fault, arguments too long, a
 //   fault of assembly text) are exactly those of the plan that words and files determine (`specs/Plans`), in order.
 //   They yield only to a fault of the folder, to want of memory and to a report that fails. All files are as they were.
+// - `answers`: Whatever the objects tell: `plain` refuses the file, or answers as a run does; `kernel` and `asm` answer
+//   Done or a fault, and `asm` a refusal of the file; words that are no command have their one answer. Besides, any
+//   report may fail.
 // - `early_untouched`: Whatever the objects tell: a refusal, a fault of the folder and want of memory come before a
 //   first step, and then input and console were not called.
-// - `too_long`, `spent`, `done`: ArgsTooLong(N) comes only where the main vars of the words' arguments have N bytes,
-//   above 65,536; the number of StepsSpent is the limit of the words; Done comes only of a command that puts a
-//   listing, and then the report was not called.
+// - `too_long`, `spent`: ArgsTooLong(N) comes only where the main vars of the words' arguments have N bytes, above
+//   65,536; the number of StepsSpent is the limit of the words.
 // - `opens`: Of a told tree all stays but that one of its files may be open once more.
-// - `reported`: A told report has grown by exactly the line of the answer with some number of steps: 0 for what comes
-//   before a first step of a run, none of a command that runs nothing, and the limit where that was spent. After
-//   ReportFault it is as it was.
-// - `listed`: A listing is put whole, and then the answer is Done, or the console is as it was, and then the folder or
-//   the console failed or there was no memory. What is put lists what the words ask for (`specs/Listings`): print_asm's
-//   text of the kernel's items, or the words of bytes that hold what the assembly text means at 0. A steady console
-//   with room for it, and a steady folder, fail no listing.
+// - `reported`: A told report has grown by exactly the line of the answer. For `plain` the line's number of steps is at
+//   most the limit of the words, 0 for what comes before a first step, and the limit where that was spent; every other
+//   command has a line without a number. After ReportFault the report is as it was.
+// - `done`, `not_done`: Done comes only of a command that puts a listing. Then the report was not called, and a told
+//   console has grown by a text that the command may put, whatever the folder holds: print_asm's text of the kernel's
+//   items, or the words of what some assembly file means. Where such a command answers anything else, a told console
+//   is as it was.
+// - `listed`: A listing that words and files determine is put whole, and then the answer is Done and nothing else, or
+//   the console is as it was, and then the folder or the console failed or there was no memory. What is put lists what
+//   the words ask for (`specs/Listings`): print_asm's text of the kernel's items, or the words of bytes that hold what
+//   the assembly text means at 0. A steady console with room for each text that lists it, and a steady folder, fail no
+//   listing.
 // - `ran`: On every answer of a run, the faults and OutOfMemory too, there is one number of steps at which console,
 //   untaken input and files are those of the direct run (`specs/Runs`), and which the report tells. No earlier state
 //   had ended or came to a step that is not built. Exited(s), StepsSpent(limit) and NotBuilt(3) come exactly where the
@@ -32,8 +39,8 @@
 // - `file_cause`, `console_cause`, `report_cause`: The counts of faults never fall, and each fault comes only where the
 //   count of that object rose in this call.
 // - `input_fault`, `input_untouched`: InputFault never comes, and the input is not called.
-// - `file_steady`, `report_steady`: Over a steady folder, and a steady report with room for 128 bytes, no fault of
-//   theirs is answered.
+// - `file_steady`, `report_steady`: Over a steady folder, and a steady report with room for a line of 128 bytes, no
+//   fault of theirs is answered.
 #![tactic(auto)]
 
 mod answer;
@@ -57,10 +64,14 @@ use folder_host::HostFolder;
 use std::fs::open;
 use std::io::ErrorKind;
 use std::process::ExitCode;
+use std::rt::Files;
 use std::{env, io};
 
 /// The device that gives nothing.
 const NULL_DEVICE: &str = "/dev/null";
+
+/// The directory that is always there.
+const ROOT_DIRECTORY: &str = "/";
 
 // The words after the program's name. Words that are not all UTF-8 are no words.
 fn words_of(rt: &HostRuntime) -> io::Result<Words> {
@@ -84,15 +95,22 @@ fn status_of(answer: Answer) -> ExitCode
     ExitCode::from(answer.code())
 }
 
+// What holds the number of a closed stream: the null device, or the root directory where there is none. Both are opened
+// for reading, so that a write to the stream fails.
+fn number_holder<R: Files>(rt: &R) -> io::Result<R::File> {
+    open(rt, NULL_DEVICE).or_else(|_| open(rt, ROOT_DIRECTORY))
+}
+
+// Where a standard stream is closed, the first file that is opened gets its number, and would then be read or written
+// in its place. So three numbers are taken first, and held.
+fn hold_numbers<R: Files>(rt: &R) -> io::Result<[R::File; 3]> {
+    Ok([number_holder(rt)?, number_holder(rt)?, number_holder(rt)?])
+}
+
 fn main(rt: HostRuntime) -> ExitCode {
-    // Where a standard stream is closed, the first file that is opened gets its number, and would then be read or
-    // written in its place. So the null device is opened for reading three times, and held: a write to such a stream
-    // fails.
-    let _numbers = [
-        open(&rt, NULL_DEVICE),
-        open(&rt, NULL_DEVICE),
-        open(&rt, NULL_DEVICE),
-    ];
+    let Ok(_numbers) = hold_numbers(&rt) else {
+        return status_of(Answer::FileFault);
+    };
     let Ok(words) = words_of(&rt) else {
         return status_of(Answer::OutOfMemory);
     };

@@ -1,12 +1,15 @@
 // What the words ask for, judged before anything is put or run.
-ghost use Rattle.std.specs.Prelude.{◌≡◌, ◌≤◌, ◌<◌, ℕ, List, IfOk, OnErr, IsErrOf, Some, Ok, Err, drop, length, slice_index_or};
+ghost use Rattle.std.specs.Prelude.{◌≡◌, ◌≤◌, ◌<◌, ℕ, List, IfOk, OnErr, IsErrOf, Some, Ok, Err};
+ghost use Rattle.std.specs.Prelude.{drop, length, slice_index_or};
 ghost use Rattle.elf_loader.specs.ElfFile.{fault_of};
 ghost use Rattle.folder_tree.specs.Tree.{Tree, IsWellFormed};
 ghost use Rattle.fe_base.specs.Limits.{assembly_file_limit};
 ghost use Rattle.asm_text.specs.Texts.{text_items};
 ghost use Rattle.spike_front.specs.Causes.{RoseFor};
 ghost use Rattle.spike_front.specs.FoundFiles.{HasFiles, StaysOrOpens};
-ghost use Rattle.spike_front.specs.Plans.{FitsPlan, IsPlan, IsPlanFor, IsProgramPlan, IsSourcePlan, NamesNone, answer_of_fault, named_file, plan_of, planned_image, planned_run, planned_source, planned_text};
+ghost use Rattle.spike_front.specs.Plans.{FitsPlan, IsPlan, IsPlanFor, IsProgramPlan, IsSourcePlan, NamesNone};
+ghost use Rattle.spike_front.specs.Plans.{answer_of_fault, named_file, plan_of, planned_image, planned_run};
+ghost use Rattle.spike_front.specs.Plans.{planned_source, planned_text};
 ghost use Rattle.spike_front.specs.Words.{IsSound, command_of};
 ghost use Rattle.spike_front.specs.declared.words.WordFault.{WordFault};
 
@@ -68,7 +71,8 @@ fn plan_image(
     bytes: &[u8],
 ) -> Result<Plan, Stop>
     requires { file ≤ length words.now }
-    ensures told { IfOk result (λ plan. IsPlan plan (planned_image limit (drop file words.now) bytes.now (fault_of bytes.now))) }
+    ensures told { IfOk result (λ plan.
+        IsPlan plan (planned_image limit (drop file words.now) bytes.now (fault_of bytes.now))) }
     ensures kind { IfOk result (IsProgramPlan (drop file words.now) limit) }
     ensures memory { OnErr result (result ≡ Err Stop.OutOfMemory) }
 {

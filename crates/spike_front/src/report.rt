@@ -2,15 +2,17 @@
 ghost use Rattle.std.specs.Prelude.{◌≡◌, ◌≤◌, ◌+◌, ◌++◌, None, codes, length};
 ghost use Rattle.std.specs.Fmt.{decimal};
 ghost use Rattle.arrayvec.specs.ArrayString.{array_string_len};
+ghost use Rattle.fe_base.specs.Limits.{report_line_limit};
 ghost use Rattle.spike_front.specs.Report as spec;
 
 use crate::answer::Answer;
 use arrayvec::ArrayString;
 use elf_loader::ElfFault;
+use fe_base::limits::REPORT_LINE_LIMIT;
 use itoa::Buffer;
 
-/// A line of at most 128 bytes.
-pub type Line = ArrayString<128>;
+/// A line of the report.
+pub type Line = ArrayString<REPORT_LINE_LIMIT>;
 
 fn push_number(line: &mut Line, number: u64)
     requires { array_string_len line.old ≤ 100 }
@@ -54,7 +56,7 @@ fn counted(mut line: Line, steps: Option<u64>) -> Line
 }
 
 fn ended(mut line: Line, words: &str) -> Line
-    requires { array_string_len line + length words.now ≤ 128 }
+    requires { array_string_len line + length words.now ≤ report_line_limit }
     ensures { result.bytes ≡ line.bytes ++ words.now }
 {
     line.push_str(words);

@@ -39,10 +39,12 @@ pub fn run_program<I: Source, C: Sink, F: Folder>(
     requires short { main_vars_length args.now ≤ main_vars_limit }
     requires some { 0 < limit }
     ensures ran { (w : World) → Tells w (I.left input.old) (C.held console.old) (F.tree folder.old)
-        → Ran (case_of w image args.now limit) result.answer result.steps (I.left input.new) (C.held console.new) (F.tree folder.new) }
+        → Ran (case_of w image args.now limit) result.answer result.steps (I.left input.new) (C.held console.new)
+        (F.tree folder.new) }
     ensures suits { (w : World) → Tells w (I.left input.old) (C.held console.old) (F.tree folder.old)
         → C.steady console.old
-        → HasRoomFor (capacity (C.held console.old) (C.room console.old)) (length (state_after (result.steps + 1) (case_of w image args.now limit)).world.console)
+        → HasRoomFor (capacity (C.held console.old) (C.room console.old))
+        (length (state_after (result.steps + 1) (case_of w image args.now limit)).world.console)
         → result.answer ≡ Answer.ConsoleFault → ⊥ }
     ensures asked { (w : World) → Tells w (I.left input.old) (C.held console.old) (F.tree folder.old)
         → result.answer ≡ Answer.ConsoleFault
@@ -53,7 +55,9 @@ pub fn run_program<I: Source, C: Sink, F: Folder>(
     ensures early { IsEarly result.answer → (result.answer ≡ Answer.OutOfMemory) × (result.steps ≡ 0)
         × (console.new ≡ console.old) }
     ensures spent { (n : ℕ) → result.answer ≡ Answer.StepsSpent n → (n ≡ limit) × (result.steps ≡ n) }
-    ensures console_cause { RoseFor (result.answer ≡ Answer.ConsoleFault) (C.faults console.old) (C.faults console.new) }
+    ensures within { result.steps ≤ limit }
+    ensures console_cause { RoseFor (result.answer ≡ Answer.ConsoleFault) (C.faults console.old)
+        (C.faults console.new) }
     ensures input_fault { result.answer ≡ Answer.InputFault → ⊥ }
 {
     let Ok(mut plain) = Plain::start(alloc, image, args, Path::root()) else {

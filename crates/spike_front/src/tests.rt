@@ -8,6 +8,7 @@ mod quiet_folder;
 use crate::answer::Answer;
 use crate::front::front;
 use elf_loader::{ElfFault, read_elf};
+use fe_base::limits::REPORT_LINE_LIMIT;
 use fe_base::{ByteSink, ByteSource, Words};
 use folder_memory::MemoryFolder;
 use folder_tree::{Path, read_path};
@@ -49,7 +50,7 @@ fn check(rt: &impl Abort, alloc: Global, case: &Case) -> Result<(), Fail> {
 fn check_words(rt: &impl Abort, alloc: Global, words: &Words, case: &Case) -> Result<(), Fail> {
     let mut input = ByteSource::new(alloc, b"", &[])?;
     let mut console = ByteSink::new(alloc, 100, case.console)?;
-    let mut report = ByteSink::new(alloc, 128, case.report)?;
+    let mut report = ByteSink::new(alloc, REPORT_LINE_LIMIT, case.report)?;
     let mut folder = MemoryFolder::new(alloc, case.folder)?;
     let path = read_path(b"p")?;
     assert!(rt; folder.can_put(&path));
@@ -559,7 +560,7 @@ fn reads(
     words.push("p")?;
     let mut input = ByteSource::new(alloc, b"", &[])?;
     let mut console = ByteSink::new(alloc, 100, &[])?;
-    let mut report = ByteSink::new(alloc, 128, &[])?;
+    let mut report = ByteSink::new(alloc, REPORT_LINE_LIMIT, &[])?;
     let mut folder = QuietFolder::new(bytes, size);
     let given = front(
         alloc,

@@ -4,12 +4,7 @@ ghost use Rattle.spike_front.specs.Words as spec;
 ghost use Rattle.spike_front.specs.Words.{command_of, IsSound};
 
 use fe_base::Words;
-
-/// The limit of steps, where the words give none.
-const DEFAULT_LIMIT: u64 = 1_000_000_000;
-
-/// The greatest limit of steps that the words may give.
-const GREATEST_LIMIT: u64 = 1_000_000_000_000;
+use fe_base::limits::{DEFAULT_STEP_LIMIT, GREATEST_STEP_LIMIT};
 
 /// What the words ask for.
 #[derive(Clone, Copy)]
@@ -105,7 +100,7 @@ fn limit_value(words: &Words, at: usize) -> Result<u64, WordFault>
     if at >= words.len() {
         return Err(WordFault::Usage(UsageKind::ValueMissing, at as u64));
     }
-    match number_within(words.word(at), 1, GREATEST_LIMIT) {
+    match number_within(words.word(at), 1, GREATEST_STEP_LIMIT) {
         Some(limit) => Ok(limit),
         None => Err(WordFault::Usage(UsageKind::BadNumber, at as u64)),
     }
@@ -137,7 +132,7 @@ fn plain_file(words: &Words, at: usize, limit: Option<u64>) -> Result<Command, W
         return Err(WordFault::Usage(UsageKind::FileMissing, at as u64));
     }
     Ok(Command::Plain {
-        limit: limit.unwrap_or(DEFAULT_LIMIT),
+        limit: limit.unwrap_or(DEFAULT_STEP_LIMIT),
         file: at,
     })
 }

@@ -3,6 +3,7 @@ use super::{Case, check, plain};
 use crate::answer::Answer;
 use crate::front::front;
 use crate::listing::word_lines;
+use fe_base::limits::REPORT_LINE_LIMIT;
 use fe_base::{ByteSink, ByteSource, Words};
 use folder_memory::MemoryFolder;
 use folder_tree::read_path;
@@ -40,7 +41,12 @@ fn text_is_assembled(rt: HostRuntime) -> Result<(), Fail> {
     let alloc = rt.alloc();
     let text = b"start:\n    la a0, start\n    beq x0, x0, start\n";
     let words = b"00000517\n00050513\nfe000ce3\n";
-    check(&rt, alloc, &asm(text, Answer::Done, 0, words, ""))?;
+    // By one put: a second would fail.
+    let case = Case {
+        console: &[1],
+        ..asm(text, Answer::Done, 0, words, "")
+    };
+    check(&rt, alloc, &case)?;
     check(&rt, alloc, &asm(b"", Answer::Done, 0, b"", ""))?;
     // The report is not called, and a console that fails keeps nothing.
     let case = Case {
@@ -109,7 +115,7 @@ fn items_are_refused(rt: HostRuntime) -> Result<(), Fail> {
     bad_asm(&rt, alloc, &large, 0, 9, line)
 }
 
-// What a command puts on a console of this room, over a folder with this file `p`.
+// What a command puts on a console of which a second put fails, over a folder with this file `p`.
 fn listing(
     rt: &impl Abort,
     alloc: Global,
@@ -121,8 +127,8 @@ fn listing(
         words.push(word)?;
     }
     let mut input = ByteSource::new(alloc, b"", &[])?;
-    let mut console = ByteSink::new(alloc, 100_000, &[])?;
-    let mut report = ByteSink::new(alloc, 128, &[])?;
+    let mut console = ByteSink::new(alloc, 100_000, &[1])?;
+    let mut report = ByteSink::new(alloc, REPORT_LINE_LIMIT, &[])?;
     let mut folder = MemoryFolder::new(alloc, &[])?;
     let path = read_path(b"p")?;
     assert!(rt; folder.can_put(&path));

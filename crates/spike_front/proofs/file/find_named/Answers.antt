@@ -1,4 +1,4 @@
-use Rattle.std.proofs.Common.{◌≡◌, ◌∙◌, ap, sym, subst, Ok, Option, List, ℕ}
+use Rattle.std.proofs.Common.{◌∙◌, ap, sym, subst, Option, List, ℕ}
 use Rattle.folder_tree.specs.Paths.{path_of}
 use Rattle.spike_front.specs.FoundFiles.{IsFound, file_at}
 use Rattle.spike_front.proofs.Plans.{ok_as}

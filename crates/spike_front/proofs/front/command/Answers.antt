@@ -1,14 +1,15 @@
-use Rattle.std.proofs.Common.{◌≡◌, ◌≢◌, [], ◌+◌, length, refl, ap, sym, subst, ◌∙◌, inl, inr, Ok, Some}
+use Rattle.std.proofs.Common.{◌≡◌, ◌≢◌, ◌≤◌, ◌⊎◌, [], ◌+◌, ℕ, length, refl, ap, sym, subst, ◌∙◌, inl, inr, Some, arith}
 use Rattle.fe_base.specs.Outside.{capacity}
 use Rattle.plain_machine.specs.Direct.{Tells, HasRoomFor, step_puts}
-use Rattle.spike_front.specs.Plans.{HasLimit, IsListing, planned_command, refusal_of}
+use Rattle.spike_front.specs.Answers.{stage_of, Yields}
+use Rattle.spike_front.specs.Plans.{HasLimit, IsListing, MayAnswer, MayPut, planned_command, refusal_of}
 use Rattle.spike_front.specs.FoundFiles.{HasFiles}
 use Rattle.spike_front.specs.Runs.{RunCase, state_after}
 use Rattle.spike_front.specs.Words.{first_count}
-use Rattle.spike_front.specs.declared.answer.Answer.TheVariants.{FileFault, OutOfMemory}
+use Rattle.spike_front.specs.declared.answer.Answer.TheVariants.{Done, FileFault, OutOfMemory}
 use Rattle.spike_front.proofs.Stages.{run_not_refusal}
-use Rattle.spike_front.proofs.PlanFacts.{fault_read, kernel_plan, sound_as, listing_counts, listing_not_run, put_is_listing, refused_too_long, refused_words, run_counts, run_has_limit, same_refusal, some_steps}
-use Rattle.spike_front.proofs.Listed.{listed_put, listed_stopped, plan_asked, text_lists}
+use Rattle.spike_front.proofs.PlanFacts.{fault_read, kernel_plan, sound_as, limit_counts, limit_not_listing, listing_counts, listing_may, listing_not_run, one_limit, put_is_listing, refusal_may, refused_too_long, refused_words, run_counts, run_has_limit, run_may, same_refusal, some_steps, stop_may}
+use Rattle.spike_front.proofs.Listed.{listed_put, listed_stopped, plan_asked, put_may, text_lists}
 use Rattle.spike_front.proofs.Endings.{Ran-as, Ran-stopped, case_same}
 use Rattle.spike_front.proofs.front.command.Goals as goal
 
@@ -56,6 +57,14 @@ pub returns-in-Ok-Refuse-clause-too_long : goal.returns-in-Ok-Refuse-clause-too_
 returns-in-Ok-Refuse-clause-too_long g c = λ n long.
     refused_too_long c.read_command-asked.result c.args.words.now c.in-Ok-Refuse.answer n (sym c.read_command-asked.ensures.value) (rw c.in-Ok-Refuse.field-0-is at c.in-Ok-Refuse.ensures.kind) long
 
+pub returns-in-Ok-Refuse-clause-answers : goal.returns-in-Ok-Refuse-clause-answers
+returns-in-Ok-Refuse-clause-answers g c =
+    subst (λ read. MayAnswer read c.in-Ok-Refuse.answer) c.read_command-asked.ensures.value (refusal_may c.read_command-asked.result c.args.words.now c.in-Ok-Refuse.answer (rw c.in-Ok-Refuse.field-0-is at c.in-Ok-Refuse.ensures.kind))
+
+pub returns-in-Ok-Refuse-clause-counted : goal.returns-in-Ok-Refuse-clause-counted
+returns-in-Ok-Refuse-clause-counted g c = λ limit has.
+    (0, c.first_count.ensures ∙ limit_counts c.read_command-asked.result c.args.words.now limit (sym c.read_command-asked.ensures.value) has, omega arith)
+
 -- where a text is put
 
 pub returns-in-Ok-Put-clause-listed : goal.returns-in-Ok-Put-clause-listed
@@ -70,7 +79,22 @@ returns-in-Ok-Put-clause-listed g c = λ listing asks.
 
 pub returns-in-Ok-Put-clause-done : goal.returns-in-Ok-Put-clause-done
 returns-in-Ok-Put-clause-done g c = λ done.
-    subst IsListing c.read_command-asked.ensures.value (put_is_listing c.read_command-asked.result c.args.words.now c.in-Ok-Put.text (rw c.in-Ok-Put.field-0-is at c.in-Ok-Put.ensures.kind))
+    let asked = c.read_command-asked.result in
+    let text = c.in-Ok-Put.text in
+    let kind = rw c.in-Ok-Put.field-0-is at c.in-Ok-Put.ensures.kind in
+    let may = subst (λ read. MayPut read text) c.read_command-asked.ensures.value (put_may asked c.args.words.now text kind) in
+    (subst IsListing c.read_command-asked.ensures.value (put_is_listing asked c.args.words.now text kind), λ held told. (text, may, c.put_listing.ensures.done done held told))
+
+pub returns-in-Ok-Put-clause-answers : goal.returns-in-Ok-Put-clause-answers
+returns-in-Ok-Put-clause-answers g c =
+    let answer = c.put_listing.result in
+    let is : (answer ≡ Done) ⊎ Yields answer = elim c.put_listing.ensures.answers [ inl done ↦ inl done | inr fault ↦ inr (inr (inl (ap stage_of fault))) ] in
+    subst (λ read. MayAnswer read answer) c.read_command-asked.ensures.value (listing_may c.read_command-asked.result c.args.words.now c.in-Ok-Put.text answer (rw c.in-Ok-Put.field-0-is at c.in-Ok-Put.ensures.kind) is)
+
+pub returns-in-Ok-Put-clause-counted : goal.returns-in-Ok-Put-clause-counted
+returns-in-Ok-Put-clause-counted g c = λ limit has.
+    let listing = put_is_listing c.read_command-asked.result c.args.words.now c.in-Ok-Put.text (rw c.in-Ok-Put.field-0-is at c.in-Ok-Put.ensures.kind) in
+    absurd (limit_not_listing c.read_command-asked.result c.args.words.now limit (sym c.read_command-asked.ensures.value) has listing)
 
 pub returns-in-Ok-Put-clause-ran : goal.returns-in-Ok-Put-clause-ran
 returns-in-Ok-Put-clause-ran g c = λ d asks.
@@ -122,6 +146,22 @@ returns-in-Ok-Run-clause-listed g c = λ listing asks.
 pub returns-in-Ok-Run-clause-listing : goal.returns-in-Ok-Run-clause-listing
 returns-in-Ok-Run-clause-listing g c = λ listing.
     absurd (listing_not_run c.read_command-asked.result c.args.words.now c.in-Ok-Run.image c.in-Ok-Run.args c.in-Ok-Run.limit (subst IsListing (sym c.read_command-asked.ensures.value) listing) (rw c.in-Ok-Run.field-0-is at c.in-Ok-Run.ensures.kind))
+
+pub returns-in-Ok-Run-clause-not_done : goal.returns-in-Ok-Run-clause-not_done
+returns-in-Ok-Run-clause-not_done g c = λ listing.
+    absurd (listing_not_run c.read_command-asked.result c.args.words.now c.in-Ok-Run.image c.in-Ok-Run.args c.in-Ok-Run.limit (subst IsListing (sym c.read_command-asked.ensures.value) listing) (rw c.in-Ok-Run.field-0-is at c.in-Ok-Run.ensures.kind))
+
+pub returns-in-Ok-Run-clause-answers : goal.returns-in-Ok-Run-clause-answers
+returns-in-Ok-Run-clause-answers g c =
+    let answer = c.run_program-end.result.answer in
+    let kind = rw c.in-Ok-Run.field-0-is at c.in-Ok-Run.ensures.kind in
+    subst (λ read. MayAnswer read answer) c.read_command-asked.ensures.value (run_may c.read_command-asked.result c.args.words.now c.in-Ok-Run.image c.in-Ok-Run.args c.in-Ok-Run.limit answer kind c.run_program-end.ensures.answers)
+
+pub returns-in-Ok-Run-clause-counted : goal.returns-in-Ok-Run-clause-counted
+returns-in-Ok-Run-clause-counted g c = λ limit has.
+    let words = c.args.words.now in
+    let made = run_has_limit c.read_command-asked.result words c.in-Ok-Run.image c.in-Ok-Run.args c.in-Ok-Run.limit (sym c.read_command-asked.ensures.value) (rw c.in-Ok-Run.field-0-is at c.in-Ok-Run.ensures.kind) in
+    (c.run_program-end.result.steps, refl, subst (λ (n : ℕ). c.run_program-end.result.steps ≤ n) (one_limit words _ limit made has) c.run_program-end.ensures.within)
 
 pub returns-in-Ok-Run-clause-ran : goal.returns-in-Ok-Run-clause-ran
 returns-in-Ok-Run-clause-ran g c = λ d asks.
@@ -192,3 +232,19 @@ returns-in-Err-OutOfMemory-clause-ran g c = λ d asks.
       λ h. cc,
       λ steady there h. cc,
     )
+
+pub returns-in-Err-FileFault-clause-counted : goal.returns-in-Err-FileFault-clause-counted
+returns-in-Err-FileFault-clause-counted g c = λ limit has.
+    (0, c.first_count-in-Err-FileFault.ensures ∙ limit_counts c.read_command-asked.result c.args.words.now limit (sym c.read_command-asked.ensures.value) has, omega arith)
+
+pub returns-in-Err-OutOfMemory-clause-counted : goal.returns-in-Err-OutOfMemory-clause-counted
+returns-in-Err-OutOfMemory-clause-counted g c = λ limit has.
+    (0, c.first_count-in-Err-OutOfMemory.ensures ∙ limit_counts c.read_command-asked.result c.args.words.now limit (sym c.read_command-asked.ensures.value) has, omega arith)
+
+pub returns-in-Err-FileFault-clause-answers : goal.returns-in-Err-FileFault-clause-answers
+returns-in-Err-FileFault-clause-answers g c =
+    subst (λ read. MayAnswer read FileFault) c.read_command-asked.ensures.value (stop_may c.read_command-asked.result FileFault (λ fault read. let planned = c.make_plan.ensures.refused fault read in let is = c.in-Err-FileFault.is in cc) refl)
+
+pub returns-in-Err-OutOfMemory-clause-answers : goal.returns-in-Err-OutOfMemory-clause-answers
+returns-in-Err-OutOfMemory-clause-answers g c =
+    subst (λ read. MayAnswer read OutOfMemory) c.read_command-asked.ensures.value (stop_may c.read_command-asked.result OutOfMemory (λ fault read. let planned = c.make_plan.ensures.refused fault read in let is = c.in-Err-OutOfMemory.is in cc) refl)

@@ -1,7 +1,7 @@
-use Rattle.std.proofs.Common.{None, Some}
-use Rattle.spike_front.specs.Plans.{words_refusal}
+use Rattle.std.proofs.Common.{inl, inr, sym, subst, None, Some}
+use Rattle.spike_front.specs.Plans.{MayAnswer, words_refusal}
 use Rattle.spike_front.specs.Words.{command_of, first_count}
-use Rattle.spike_front.specs.declared.answer.Answer.TheVariants.{ConsoleFault, Done, FileFault, StepsSpent}
+use Rattle.spike_front.specs.declared.answer.Answer.TheVariants.{ConsoleFault, Done, FileFault}
 use Rattle.spike_front.proofs.Stages.{early_said, refusal_said, reported_at, rose_said, said_as, said_of, words_said}
 use Rattle.spike_front.proofs.PlanFacts.{asked_is_listing, refused_names_none, run_counts, some_is, steps_early}
 use Rattle.spike_front.proofs.front.front.Goals as goal
@@ -41,6 +41,13 @@ returns-clause-refused_untouched g c = λ t a plans.
     let known = c.command-ending.ensures.refused t a plans in
     (known.2, known.3, c.command-ending.ensures.files t plans.tree_told)
 
+pub returns-clause-answers : goal.returns-clause-answers
+returns-clause-answers g c =
+    elim c.put_report.ensures.said [
+      | inl same ↦ inl (subst (MayAnswer (command_of c.args.words.now)) (sym same) c.command-ending.ensures.answers)
+      | inr fault ↦ inr fault
+    ]
+
 pub returns-clause-early_untouched : goal.returns-clause-early_untouched
 returns-clause-early_untouched g c = λ early.
     early_said _ _ c.put_report.ensures.said early (λ is. let known = c.command-ending.ensures.early is in (known.0, known.1))
@@ -52,7 +59,13 @@ pub returns-clause-spent : goal.returns-clause-spent
 returns-clause-spent g c = λ n h. said_of _ _ _ (λ no. cc) c.put_report.ensures.said h (λ is. (c.command-ending.ensures.spent n is).0)
 
 pub returns-clause-done : goal.returns-clause-done
-returns-clause-done g c = λ h. said_of _ _ Done (λ no. cc) c.put_report.ensures.said h (λ is. (c.command-ending.ensures.done is, (c.put_report.ensures.done is).1))
+returns-clause-done g c = λ h.
+    said_of _ _ Done (λ no. cc) c.put_report.ensures.said h (λ is.
+    let known = c.command-ending.ensures.done is in
+    (known.0, (c.put_report.ensures.done is).1, known.1))
+
+pub returns-clause-not_done : goal.returns-clause-not_done
+returns-clause-not_done g c = λ listing other. c.command-ending.ensures.not_done listing (λ is. other (c.put_report.ensures.done is).0)
 
 pub returns-clause-reported : goal.returns-clause-reported
 returns-clause-reported g c = (
@@ -60,6 +73,7 @@ returns-clause-reported g c = (
   c.put_report.ensures.reported,
   λ early. early_said _ _ c.put_report.ensures.said early (λ is. (c.command-ending.ensures.early is).2),
   c.command-ending.ensures.listing,
+  c.command-ending.ensures.counted,
   λ n h. said_of _ _ _ (λ no. cc) c.put_report.ensures.said h (λ is. (c.command-ending.ensures.spent n is).1),
 )
 
@@ -70,6 +84,7 @@ returns-clause-listed g c = λ listing asks.
       c.command-ending.result.answer,
       left.0,
       c.put_report.ensures.said,
+      λ is. (c.put_report.ensures.done is).0,
       reported_at c.put_report.result c.command-ending.result.steps None _ _ (known.listing (asked_is_listing c.args.words.now listing _ asks)) c.put_report.ensures.reported,
       known.console_cause,
       known.file_cause,

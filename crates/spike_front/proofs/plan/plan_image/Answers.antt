@@ -1,4 +1,4 @@
-use Rattle.std.proofs.Common.{◌∙◌, Err, drop, sym, ap}
+use Rattle.std.proofs.Common.{◌∙◌, Err, drop, ap}
 use Rattle.spike_front.specs.Plans.{planned_image}
 use Rattle.spike_front.proofs.plan.plan_image.Goals as goal
 

@@ -1,4 +1,4 @@
-use Rattle.std.proofs.Common.{◌≡◌, ◌-◌, ◌↔◌, ◌⊎◌, inl, inr, ℕ, max, None, refl, ap, sym, subst, ◌∙◌, arith}
+use Rattle.std.proofs.Common.{◌≡◌, ◌-◌, ◌↔◌, inl, inr, ℕ, max, None, refl, ap, sym, subst, ◌∙◌, arith}
 use Rattle.plain_machine.specs.Direct.{PlainState, direct_of, direct_start, status_of}
 use Rattle.plain_machine.specs.declared.plain.PlainFault.TheVariants.{FileFault as FileStop, OutOfMemory as MemoryStop}
 use Rattle.plain_machine.specs.declared.plain.PlainEnd.TheVariants.{StepsSpent as EndSpent}
@@ -76,3 +76,8 @@ returns-clause-asked g c = λ w told h.
     let all : last.steps - first.steps ≡ c.steps.result = omega (arith, none, c.steps.ensures) in
     let at = c.run-end.ensures.run w told in
     asked_there _ _ _ _ _ at.machine all start (c.run-end.ensures.console_asked (console_back c.args.limit c.run-end.result (sym c.answer_of.ensures ∙ h)))
+
+pub returns-clause-within : goal.returns-clause-within
+returns-clause-within g c =
+    let none : c.in-Ok.plain.steps ≡ 0 = ap (λ (p : PlainState). p.steps) c.in-Ok.ensures in
+    omega (arith, none, c.run-end.ensures.within, c.steps.ensures)
