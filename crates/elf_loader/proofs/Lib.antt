@@ -3,3 +3,4 @@ pub mod Meetings
 pub mod Table
 pub mod Texts
 pub mod Walks
+pub mod UserArea

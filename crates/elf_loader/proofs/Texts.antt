@@ -1,5 +1,6 @@
 -- The pointers and the texts of arguments, one argument after the other.
-use Rattle.std.proofs.Common.{◌≡◌, ℕ, zero, suc, ◌+◌, ◌*◌, List, [], ◌∷◌, ◌++◌, length, drop, Some, refl, ap, sym, ◌∙◌, add-one, arith, append_assoc, length-append}
+use Rattle.std.proofs.Common.{◌≡◌, ℕ, zero, suc, ◌+◌, ◌*◌, List, [], ◌∷◌, ◌++◌, length, drop, Some, refl, ap, sym, ◌∙◌}
+use Rattle.std.proofs.Common.{add-one, arith, append_assoc, length-append}
 use Rattle.std.specs.Prelude.{slice_get}
 use Rattle.fe_base.specs.WordLists.{strings_length, main_vars_length}
 use Rattle.elf_loader.specs.MainVars.{dword, pointers, texts_with_nuls, main_vars_text}
@@ -17,12 +18,15 @@ pub strings_length-drop : (args : List (List ℕ)) (i : ℕ) (text : List ℕ) �
 strings_length-drop args i text h = ap strings_length (drop-got args i text h)
 
 pub texts_preserved : (args : List (List ℕ)) (i : ℕ) (text old new all : List ℕ) → slice_get args i ≡ Some text
-    → new ≡ (old ++ text) ++ 0 ∷ [] → old ++ texts_with_nuls (drop i args) ≡ all → new ++ texts_with_nuls (drop (i + 1) args) ≡ all
+    → new ≡ (old ++ text) ++ 0 ∷ [] → old ++ texts_with_nuls (drop i args) ≡ all
+    → new ++ texts_with_nuls (drop (i + 1) args) ≡ all
 texts_preserved args i text old new all h e inv =
-    rw e (simp append_assoc (sym (simp append_assoc at (ap (λ x. old ++ texts_with_nuls x) (drop-got args i text h))) ∙ inv))
+    rw e (simp append_assoc (sym (simp append_assoc at (ap (λ x. old ++ texts_with_nuls x) (drop-got args i text h)))
+    ∙ inv))
 
 pub pointers_preserved : (args : List (List ℕ)) (i at : ℕ) (text old new all : List ℕ) → slice_get args i ≡ Some text
-    → new ≡ old ++ dword at → old ++ pointers at (drop i args) ≡ all → new ++ pointers (at + (length text + 1)) (drop (i + 1) args) ≡ all
+    → new ≡ old ++ dword at → old ++ pointers at (drop i args) ≡ all
+    → new ++ pointers (at + (length text + 1)) (drop (i + 1) args) ≡ all
 pointers_preserved args i at text old new all h e inv =
     rw e (append_assoc old (dword at) (pointers (at + (length text + 1)) (drop (i + 1) args))
     ∙ sym (ap (λ x. old ++ pointers at x) (drop-got args i text h)) ∙ inv)
@@ -35,6 +39,7 @@ length-texts_with_nuls : (args : List (List ℕ)) → length (texts_with_nuls ar
 length-texts_with_nuls [] = refl
 length-texts_with_nuls (text ∷ texts) = simp length-append (omega (arith, length-texts_with_nuls texts))
 
-pub length-main_vars_text : (args : List (List ℕ)) (base : ℕ) → length (main_vars_text args base) ≡ main_vars_length args
+pub length-main_vars_text : (args : List (List ℕ)) (base : ℕ)
+    → length (main_vars_text args base) ≡ main_vars_length args
 length-main_vars_text args base =
     simp length-append (omega (arith, length-pointers (base + 8 * (length args + 3)) args, length-texts_with_nuls args))

@@ -1,15 +1,18 @@
 -- A walk over a list from its front: what is left from a place on, one element at a time.
-use Rattle.std.proofs.Common.{◌≡◌, ◌∙◌, ℕ, ◌+◌, Bool, true, false, cond, List, [], ◌∷◌, ◌++◌, drop, Option, Some, None, map, filter, refl, ap, sym, append_assoc}
+use Rattle.std.proofs.Common.{◌≡◌, ◌∙◌, ℕ, ◌+◌, Bool, true, false, cond, List, [], ◌∷◌, ◌++◌, drop, Option, Some, None}
+use Rattle.std.proofs.Common.{map, filter, refl, ap, sym, append_assoc}
 use Rattle.std.specs.Prelude.{slice_get}
 use Rattle.std.specs.List.{list_any, position_from}
 use Rattle.elf_loader.proofs.Texts.{drop-got}
 
-chosen : {X Y : Type 0} (f : X → Y) (b : Bool) (x : X) (rest xs : List X) (ys all : List Y) → xs ≡ cond b (x ∷ rest) rest
+chosen : {X Y : Type 0} (f : X → Y) (b : Bool) (x : X) (rest xs : List X) (ys all : List Y)
+    → xs ≡ cond b (x ∷ rest) rest
     → ys ++ map f xs ≡ all → (ys ++ map f (cond b (x ∷ []) [])) ++ map f rest ≡ all
 chosen f true x rest xs ys all e h = append_assoc ys (f x ∷ []) (map f rest) ∙ sym (ap (λ zs. ys ++ map f zs) e) ∙ h
 chosen f false x rest xs ys all e h = append_assoc ys [] (map f rest) ∙ sym (ap (λ zs. ys ++ map f zs) e) ∙ h
 
-moved : {X Y : Type 0} (f : X → Y) (p : X → Bool) (x : X) (rest : List X) (ys all : List Y) → ys ++ map f (filter p (x ∷ rest)) ≡ all
+moved : {X Y : Type 0} (f : X → Y) (p : X → Bool) (x : X) (rest : List X) (ys all : List Y)
+    → ys ++ map f (filter p (x ∷ rest)) ≡ all
     → (ys ++ map f (filter p (x ∷ []))) ++ map f (filter p rest) ≡ all
 moved f p x rest ys all h = chosen f (p x) x (filter p rest) (filter p (x ∷ rest)) ys all refl h
 
@@ -28,7 +31,8 @@ module _ {X : Type 0} (p : X → Bool) (xs : List X) (i : ℕ) (x : X) (got : sl
 
   pub filter-step : {Y : Type 0} (f : X → Y) (ys all : List Y) → ys ++ map f (filter p (drop i xs)) ≡ all
       → (ys ++ map f (filter p (x ∷ []))) ++ map f (filter p (drop (i + 1) xs)) ≡ all
-  filter-step f ys all h = moved f p x (drop (i + 1) xs) ys all (sym (ap (λ rest. ys ++ map f (filter p rest)) (drop-got xs i x got)) ∙ h)
+  filter-step f ys all h =
+      moved f p x (drop (i + 1) xs) ys all (sym (ap (λ rest. ys ++ map f (filter p rest)) (drop-got xs i x got)) ∙ h)
 
 cond-none : {X : Type 0} (b : Bool) (x : X) (o : Option X) → cond b (Some x) o ≡ None → (b ≡ false) × (o ≡ None)
 cond-none true x o h = cc

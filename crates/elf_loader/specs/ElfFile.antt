@@ -1,35 +1,38 @@
 -- Which files are programs, which image such a file has, and which images may be run.
-use Rattle.std.specs.Prelude.{◌≡◌, ◌≤◌, ◌<◌, ℕ, ◌+◌, ◌*◌, ◌%◌, ◌==◌, ◌||◌, not, nat_lt, bit_and, Bool, true, false, List, [], ◌∷◌, ◌++◌, take, length, slice_index, map, filter, All, AllPairs, Option, Some, None, option_map}
+use Rattle.std.specs.Prelude.{◌≡◌, ◌≤◌, ◌<◌, ℕ, ◌+◌, ◌*◌, ◌==◌, ◌||◌, not, nat_lt, bit_and, Bool, true, false, List, []}
+use Rattle.std.specs.Prelude.{◌∷◌, ◌++◌, take, length, slice_index, map, filter, All, AllPairs, Option, Some, None}
+use Rattle.std.specs.Prelude.{option_map}
 use Rattle.std.specs.List.{list_any, position_from}
 use Rattle.std.specs.Option.{option_or}
 use Rattle.std.specs.Str.{bytes_eq}
 use Rattle.std.proofs.lemmas.Bool.{lt-ltb}
-use Rattle.elf_loader.specs.Rules.{Rules, entry_alignment, user_rules}
-use Rattle.fe_base.specs.Limits.{elf_file_limit, stack_top}
-use Rattle.fe_base.specs.MemoryMap.{user_start}
+use Rattle.elf_loader.specs.Rules.{Rules, is_inside, user_rules}
+use Rattle.fe_base.specs.Limits.{elf_file_limit}
 use Rattle.elf_loader.specs.declared.area.Area.{Area}
-use Rattle.elf_loader.specs.Segment.{Segment, end_of, holds, meets, first_break_of}
-use Rattle.elf_loader.specs.ProgramHeader.{number_at, headers_from, is_dynamic, is_segment, is_cut, is_outside, segments_meet, segment_holds, segment_of_header}
+use Rattle.elf_loader.specs.Segment.{Segment, holds, meets, first_break_of}
+use Rattle.elf_loader.specs.ProgramHeader.{number_at, headers_from, is_dynamic, is_segment, is_cut, is_outside}
+use Rattle.elf_loader.specs.ProgramHeader.{segments_meet, segment_holds, segment_of_header}
 use Rattle.elf_loader.specs.Faults.{fault_when, first_fault}
 use Rattle.elf_loader.specs.declared.header.ProgramHeader.{ProgramHeader}
 use Rattle.elf_loader.specs.declared.image.Image.{Image}
 use Rattle.elf_loader.specs.declared.fault.ElfFault.{ElfFault}
-use Rattle.elf_loader.specs.declared.fault.ElfFault.TheVariants.{TooLarge, Short, Magic, Class, Order, Version, Kind, Machine, Flags, HeaderSize, Headers, Dynamic, Segment as CutSegment, Outside, Overlap, Entry}
+use Rattle.elf_loader.specs.declared.fault.ElfFault.TheVariants.{TooLarge, Short, Magic, Class, Order, Version, Kind}
+use Rattle.elf_loader.specs.declared.fault.ElfFault.TheVariants.{Machine, Flags, HeaderSize, Headers, Dynamic}
+use Rattle.elf_loader.specs.declared.fault.ElfFault.TheVariants.{Segment as CutSegment, Outside, Overlap, Entry}
 
--- what a segment of an image that may be run is: not empty, no longer in the file than in memory, and inside the area
--- for programs that the kernel runs
-pub record IsFitSegment (s : Segment) : Type 0 where
+-- what a segment of an image that may be run is: not empty, no longer in the file than in memory, and inside one of the
+-- areas
+pub record IsFitSegment (areas : List Area) (s : Segment) : Type 0 where
   pub not_empty : 0 < s.size
   pub fits : length s.bytes ≤ s.size
-  pub above : user_start ≤ s.address
-  pub below : end_of s ≤ stack_top
+  pub inside : is_inside areas s.address s.size ≡ true
 
--- an image that may be run: its segments suit and none meet, the entry is aligned and in one of them, and the break
--- lies behind them
-pub record IsFit (image : Image) : Type 0 where
-  pub segments : All IsFitSegment image.segments
+-- an image that may be run under these rules: its segments suit and none meet, a program may begin at the entry, which
+-- is in one of them, and the break lies behind them
+pub record IsFit (rules : Rules) (image : Image) : Type 0 where
+  pub segments : All (IsFitSegment rules.areas) image.segments
   pub apart : AllPairs (λ a b. meets a b ≡ false) image.segments
-  pub aligned : image.entry % entry_alignment ≡ 0
+  pub enters : rules.may_enter image.entry ≡ true
   pub entered : list_any (holds image.entry) image.segments ≡ true
   pub first_break : image.first_break ≡ first_break_of image.segments
 
@@ -52,7 +55,8 @@ headers_of file = headers_from file (headers_place file) (headers_count file)
 -- the least i and then the least j above it whose segments meet, where the list's first header is number i
 abbrev pub first_meeting : ℕ → List ProgramHeader → Option (ℕ × ℕ)
 first_meeting i [] = None
-first_meeting i (h ∷ hs) = option_or (option_map (λ j. (i, j)) (position_from (segments_meet h) (i + 1) hs)) (first_meeting (i + 1) hs)
+first_meeting i (h ∷ hs) =
+    option_or (option_map (λ j. (i, j)) (position_from (segments_meet h) (i + 1) hs)) (first_meeting (i + 1) hs)
 
 -- what is wrong with the length and with e_ident: the magic number, ELFCLASS64, ELFDATA2LSB, EV_CURRENT (System V gABI,
 -- chapter 4, ELF Identification)
@@ -111,7 +115,11 @@ segments_of file = map (segment_of_header file) (filter is_segment (headers_of f
 
 -- the image of an accepted file
 abbrev pub image_of : List ℕ → Image
-image_of file = record { entry = entry_of file; segments = segments_of file; first_break = first_break_of (segments_of file) }
+image_of file = record {
+  entry = entry_of file;
+  segments = segments_of file;
+  first_break = first_break_of (segments_of file);
+}
 
 -- a file of too many bytes is refused for that, whatever they are
 pub fault_of-too_large : (file : List ℕ) → elf_file_limit < length file → fault_of file ≡ Some TooLarge

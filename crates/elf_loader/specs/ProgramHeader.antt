@@ -57,4 +57,5 @@ segment_holds at h = is_segment h && is_in_range at h.address h.memory_size
 
 -- what a header puts into memory
 abbrev pub segment_of_header : List ℕ → ProgramHeader → Segment
-segment_of_header file h = record { address = h.address; size = h.memory_size; bytes = take h.file_size (drop h.offset file) }
+segment_of_header file h =
+    record { address = h.address; size = h.memory_size; bytes = take h.file_size (drop h.offset file) }

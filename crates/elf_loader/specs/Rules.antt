@@ -10,6 +10,10 @@ pub record Rules : Type 0 where
   pub areas : List Area
   pub may_enter : ℕ → Bool
 
+-- rules by which a program begins at a multiple of this
+abbrev pub aligned_rules : List Area → ℕ → Rules
+aligned_rules areas alignment = record { areas = areas; may_enter = λ entry. entry % alignment == 0 }
+
 -- a range of addresses, given by its first one and its size, lies in an area
 abbrev pub lies_in : ℕ → ℕ → Area → Bool
 lies_in start size area = nat_le area.start start && nat_le (start + size) area.end
@@ -24,7 +28,4 @@ entry_alignment = 4
 
 -- the rules for a program that the kernel runs: it stands in the user area, below the stack
 unfoldable pub user_rules : Rules
-user_rules = record {
-  areas = record { start = user_start; end = stack_top } ∷ [];
-  may_enter = λ entry. entry % entry_alignment == 0;
-}
+user_rules = aligned_rules (record { start = user_start; end = stack_top } ∷ []) entry_alignment

@@ -3,6 +3,7 @@ ghost use Rattle.std.specs.Prelude.{◌≡◌, ◌≤◌, ◌<◌, ◌+◌, ◌^
 ghost use Rattle.fe_base.specs.WordLists.{main_vars_length, strings_length};
 ghost use Rattle.elf_loader.specs.MainVars.{main_vars_text, dword, pointers, texts_with_nuls};
 
+use fe_base::limits::MAIN_VARS_LIMIT;
 use fe_base::{Bytes, Words};
 use std::alloc::{AllocError, Global};
 
@@ -57,10 +58,10 @@ pub fn main_vars_len(args: &Words) -> u64
     length
 }
 
-/// The count of the arguments as 8 bytes, a pointer of 8 bytes to each, 16 bytes of zero, and the
-/// arguments, each with a NUL. The pointers are right where the bytes stand at the base.
+/// The count of the arguments as 8 bytes, a pointer of 8 bytes to each, 16 bytes of zero, and the arguments, each with
+/// a NUL. The pointers are right where the bytes stand at the base.
 pub fn main_vars(alloc: Global, args: &Words, base: u64) -> Result<Bytes, AllocError>
-    requires short { main_vars_length args.now ≤ 65536 }
+    requires short { main_vars_length args.now ≤ MAIN_VARS_LIMIT }
     requires fits { base + main_vars_length args.now < 2 ^ 64 }
     ensures text { IfOk result (λ bytes. bytes ≡ main_vars_text args.now base) }
     ensures len { IfOk result (λ bytes. length bytes ≡ main_vars_length args.now) }

@@ -3,8 +3,10 @@ ghost use Rattle.std.specs.Prelude.{◌≡◌, ◌<◌, ◌≤◌, ◌+◌, ◌*
 ghost use Rattle.std.specs.List.{list_any, position_from};
 ghost use Rattle.elf_loader.specs.ProgramHeader.{is_dynamic, is_cut, is_outside, segments_meet, segment_holds};
 ghost use Rattle.elf_loader.specs.Faults.{first_fault};
+ghost use Rattle.elf_loader.specs.Rules.{aligned_rules};
 ghost use Rattle.elf_loader.specs.ElfFile as spec;
-ghost use Rattle.elf_loader.specs.ElfFile.{fault_of, identification_rows, file_header_rows, program_header_rows, headers_place, headers_count};
+ghost use Rattle.elf_loader.specs.ElfFile.{fault_by, fault_of, identification_rows, file_header_rows};
+ghost use Rattle.elf_loader.specs.ElfFile.{program_header_rows, headers_place, headers_count};
 
 use crate::ElfFault;
 use crate::area::Area;
@@ -193,9 +195,10 @@ pub fn headers_of(file: &[u8]) -> Headers<'_>
     Headers::new(file, u64_at(file, 32) as usize, u16_at(file, 56))
 }
 
-// The first fault of the file.
-pub fn first_fault_of(file: &[u8]) -> Option<ElfFault>
-    ensures fault { result ≡ fault_of file.now }
+// The first fault of a file whose segments have to stand in these areas, and whose entry at a multiple of this.
+pub fn first_fault_of(file: &[u8], areas: &[Area], alignment: u64) -> Option<ElfFault>
+    requires { 0 < alignment }
+    ensures fault { result ≡ fault_by (aligned_rules areas.now alignment) file.now }
     ensures long_enough { IsNone result → 64 ≤ length file.now }
     ensures headers_inside { IsNone result → headers_place file.now + 56 * headers_count file.now ≤ length file.now }
 {
@@ -206,12 +209,16 @@ pub fn first_fault_of(file: &[u8]) -> Option<ElfFault>
         return Some(fault);
     }
     let entry = u64_at(file, 24);
-    let is_aligned = entry % ENTRY_ALIGNMENT == 0;
-    program_header_fault(
-        &headers_of(file),
-        file.len(),
-        &USER_AREAS,
-        entry,
-        is_aligned,
-    )
+    let headers = headers_of(file);
+    program_header_fault(&headers, file.len(), areas, entry, entry % alignment == 0)
+}
+
+// The first fault of a file as a program that the kernel runs.
+#[tactic(auto, unfolding(crate::specs::Rules::user_rules))]
+pub fn user_fault_of(file: &[u8]) -> Option<ElfFault>
+    ensures fault { result ≡ fault_of file.now }
+    ensures long_enough { IsNone result → 64 ≤ length file.now }
+    ensures headers_inside { IsNone result → headers_place file.now + 56 * headers_count file.now ≤ length file.now }
+{
+    first_fault_of(file, &USER_AREAS, ENTRY_ALIGNMENT)
 }

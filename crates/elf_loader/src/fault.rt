@@ -5,8 +5,8 @@ ghost use Rattle.elf_loader.specs.Faults.{number_of};
 use std::alloc::AllocError;
 use thiserror::Error;
 
-/// What is wrong with a file, in the order in which the faults are looked for. A number is that of a
-/// program header, counted from 0.
+/// What is wrong with a file, in the order in which the faults are looked for. A number is that of a program header,
+/// counted from 0.
 #[derive(Clone, Copy, Debug, PartialEq, Eq, Error)]
 pub enum ElfFault {
     /// It has more than 67,108,864 bytes.

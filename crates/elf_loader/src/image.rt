@@ -12,8 +12,8 @@ struct Loaded {
     bytes: Vec<u8>,
 }
 
-/// The parts of memory that a program file fills, in the order of its headers: for each an address,
-/// how many bytes it takes, and the bytes that the file gives for its front. The others are zeros.
+/// The parts of memory that a program file fills, in the order of its headers: for each an address, how many bytes it
+/// takes, and the bytes that the file gives for its front. The others are zeros.
 #[derive(Drop)]
 pub struct Segments {
     loaded: Vec<Loaded>,
@@ -40,7 +40,8 @@ impl Segments {
     }
 
     pub(crate) fn push(&mut self, address: u64, size: u64, bytes: Vec<u8>) -> Result<(), AllocError>
-        ensures { OnOk result (self.new ≡ self.old ++ (record { address = address; size = size; bytes = bytes.items }) ∷ []) }
+        ensures { OnOk result (self.new ≡ self.old ++ (record { address = address; size = size; bytes = bytes.items })
+            ∷ []) }
     {
         self.loaded.push(Loaded {
             address,
@@ -82,8 +83,7 @@ impl Segments {
     }
 }
 
-/// What an accepted file asks for: where the program begins, what stands in memory then, and where
-/// its heap begins.
+/// What an accepted file asks for: where the program begins, what stands in memory then, and where its heap begins.
 #[derive(Drop)]
 pub struct Image {
     /// The address of the first instruction.

@@ -1,7 +1,7 @@
-// Program files and what a program finds in memory at its start. `read_elf` reads a file in the
-// ELF-64 format for RISC-V: it gives the image exactly of an accepted file, and for every other the
-// fault that the file has. An image that was read is always fit to be run. `main_vars` makes the
-// bytes of the stack's first frame: the count of the arguments, the pointers to them and their texts.
+// Program files and what a program finds in memory at its start. `read_elf` reads a file in the ELF-64 format for
+// RISC-V: it gives the image exactly of an accepted file, and for every other the fault that the file has. An image
+// that was read is always fit to be run. `main_vars` makes the bytes of the stack's first frame: the count of the
+// arguments, the pointers to them and their texts.
 #![tactic(auto)]
 
 mod area;

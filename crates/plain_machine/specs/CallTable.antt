@@ -1,5 +1,6 @@
 -- The call table: which calls there are, and what each does, by the registers, the user bytes and the break.
-use Rattle.std.specs.Prelude.{ℕ, ◌+◌, ◌-◌, ◌%◌, ◌^◌, ◌==◌, ◌&&◌, ◌||◌, not, min, nat_le, if◌then◌else◌, Bool, List, [], ◌∷◌, take, drop}
+use Rattle.std.specs.Prelude.{ℕ, ◌+◌, ◌-◌, ◌%◌, ◌^◌, ◌==◌, ◌&&◌, ◌||◌, not, min, nat_le, if◌then◌else◌, Bool, List, []}
+use Rattle.std.specs.Prelude.{◌∷◌, take, drop}
 use Rattle.std.specs.List.{list_any}
 use Rattle.fe_base.specs.ErrorNumbers.{error_number}
 use Rattle.fe_base.specs.Limits.{transfer_limit, greatest_break}

@@ -1,5 +1,6 @@
 -- The direct run: a machine with its world, one step of it, and so many steps.
-use Rattle.std.specs.Prelude.{◌≡◌, ◌≤◌, ◌+◌, ◌-◌, ◌%◌, ◌^◌, ◌==◌, ◌&&◌, if◌then◌else◌, ℕ, Bool, true, false, ⊤, List, [], ◌∷◌, ◌++◌, slice_set, Option, Some, None, refl}
+use Rattle.std.specs.Prelude.{◌≡◌, ◌≤◌, ◌+◌, ◌-◌, ◌%◌, ◌^◌, ◌==◌, ◌&&◌, if◌then◌else◌, ℕ, Bool, true, false, ⊤, List}
+use Rattle.std.specs.Prelude.{[], ◌∷◌, ◌++◌, slice_set, Option, Some, None, refl}
 use Rattle.std.proofs.Common.{zero, suc, add-one, ap}
 use Rattle.elf_loader.specs.MainVars.{main_vars_text}
 use Rattle.elf_loader.specs.Segment.{Segment}

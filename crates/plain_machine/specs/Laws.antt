@@ -1,7 +1,8 @@
 -- Laws of the definitions, for the proofs of the crates above. A reader need not believe them: each is proved.
 use Rattle.std.specs.Prelude.{◌≡◌, ⊤, Bool, true, false}
 use Rattle.rv_alu.specs.declared.causes.Cause.{Cause}
-use Rattle.rv_alu.specs.declared.causes.Cause.TheVariants.{Misaligned, FetchAccess, Illegal, Breakpoint, LoadAccess, StoreAccess, UserCall, MachineCall}
+use Rattle.rv_alu.specs.declared.causes.Cause.TheVariants.{Misaligned, FetchAccess, Illegal, Breakpoint, LoadAccess}
+use Rattle.rv_alu.specs.declared.causes.Cause.TheVariants.{StoreAccess, UserCall, MachineCall}
 use Rattle.plain_machine.specs.UserStep.{UserState, UserStep, next, call, trap, user_step}
 
 -- the causes of a user program's traps: a call is a step of its own

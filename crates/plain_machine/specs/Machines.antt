@@ -5,7 +5,8 @@ use Rattle.plain_machine.specs.Direct.{World, DirectState, Machine, running, dyi
 use Rattle.plain_machine.specs.declared.machine.Phase.{Phase}
 use Rattle.plain_machine.specs.declared.machine.Phase.TheVariants.{Running, Dying, Ended}
 use Rattle.plain_machine.specs.declared.plain.PlainFault.{PlainFault}
-use Rattle.plain_machine.specs.declared.plain.PlainFault.TheVariants.{FileFault, InputFault, ConsoleFault, OutOfMemory, NotBuilt}
+use Rattle.plain_machine.specs.declared.plain.PlainFault.TheVariants.{FileFault, InputFault, ConsoleFault, OutOfMemory}
+use Rattle.plain_machine.specs.declared.plain.PlainFault.TheVariants.{NotBuilt}
 
 -- the machine of a program, by its phase
 abbrev pub machine_of : Process → Phase → Machine

@@ -1,5 +1,6 @@
 -- The user step: one instruction on pc, 32 registers and the user bytes.
-use Rattle.std.specs.Prelude.{◌≡◌, ℕ, ◌+◌, ◌-◌, ◌%◌, ◌^◌, ◌==◌, ⊤, if◌then◌else◌, Bool, true, false, List, Option, Some, None, refl}
+use Rattle.std.specs.Prelude.{◌≡◌, ℕ, ◌+◌, ◌-◌, ◌%◌, ◌^◌, ◌==◌, ⊤, if◌then◌else◌, Bool, true, false, List, Option, Some}
+use Rattle.std.specs.Prelude.{None, refl}
 use Rattle.std.proofs.Common.{zero, suc, add-one, ap}
 use Rattle.fe_base.specs.ByteRanges.{first_failing, is_between}
 use Rattle.fe_base.specs.MemoryMap.{user_start, user_end}
@@ -9,10 +10,12 @@ use Rattle.rv_decode.specs.InsnTable.{insn_of}
 use Rattle.rv_decode.specs.declared.instruction.Insn.{Insn}
 use Rattle.rv_alu.specs.Effects.{effect_of, bytes, loaded, put, read}
 use Rattle.rv_alu.specs.declared.causes.Cause.{Cause}
-use Rattle.rv_alu.specs.declared.causes.Cause.TheVariants.{Misaligned, FetchAccess, Illegal, Breakpoint, LoadAccess, StoreAccess}
+use Rattle.rv_alu.specs.declared.causes.Cause.TheVariants.{Misaligned, FetchAccess, Illegal, Breakpoint, LoadAccess}
+use Rattle.rv_alu.specs.declared.causes.Cause.TheVariants.{StoreAccess}
 use Rattle.rv_alu.specs.declared.effects.Effect.{Effect}
 use Rattle.rv_alu.specs.declared.effects.Size.{Size}
-use Rattle.rv_alu.specs.declared.effects.Effect.TheVariants.{Pass, Set, Jump, Load, Store, Csr, Call, Break, Return, Wait}
+use Rattle.rv_alu.specs.declared.effects.Effect.TheVariants.{Pass, Set, Jump, Load, Store, Csr, Call, Break, Return}
+use Rattle.rv_alu.specs.declared.effects.Effect.TheVariants.{Wait}
 use Rattle.plain_machine.specs.declared.cpu.Outcome.{Outcome}
 use Rattle.plain_machine.specs.declared.cpu.Outcome.TheVariants.{Moved, Called, Trapped}
 

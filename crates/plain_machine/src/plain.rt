@@ -56,6 +56,7 @@ impl Model for Plain {
 
 impl Plain {
     ghost use Rattle.elf_loader.specs.ElfFile.{IsFit};
+    ghost use Rattle.elf_loader.specs.Rules.{user_rules};
     ghost use Rattle.fe_base.specs.WordLists.{main_vars_length};
     ghost use Rattle.folder_tree.specs.Paths.{path_text};
     ghost use Rattle.plain_machine.specs.Direct.{World, Tells, IsAt, HasRoomFor, ended, status_of, direct_step, direct_after, direct_of, is_built, moves_on, step_puts, first_machine};
@@ -63,7 +64,7 @@ impl Plain {
     /// A program before its first step: its image and its arguments stand in the user area. The root is where the paths
     /// of its calls begin; no call that is built names a path, so nothing keeps it.
     pub fn start(alloc: Global, image: Image, args: &Words, root: Path) -> Result<Plain, AllocError>
-        requires fit { IsFit image }
+        requires fit { IsFit user_rules image }
         requires arguments { main_vars_length args.now ≤ MAIN_VARS_LIMIT }
         requires root_length { length (path_text root) ≤ PATH_TEXT_LIMIT }
         ensures { IfOk result (λ plain. plain ≡ record { machine = first_machine image args.now; steps = 0 }) }

@@ -2,6 +2,7 @@
 ghost use Rattle.std.specs.Prelude.{◌≡◌, ◌≤◌, ◌+◌, length, IfOk, All};
 ghost use Rattle.elf_loader.specs.ElfFile.{IsFitSegment};
 ghost use Rattle.elf_loader.specs.MainVars.{main_vars_text};
+ghost use Rattle.elf_loader.specs.Rules.{user_rules};
 ghost use Rattle.fe_base.specs.MemoryMap.{user_start, user_end};
 ghost use Rattle.fe_base.specs.WordLists.{main_vars_length};
 ghost use Rattle.guest_memory.specs.Bus.{user_size};
@@ -25,7 +26,8 @@ fn place(bus: &mut Bus, at: u64, bytes: &[u8])
 
 // Puts each segment's bytes into the user area, at its address.
 fn load(bus: &mut Bus, segments: &Segments)
-    requires { All IsFitSegment segments.now }
+    requires low { All (λ s. user_start ≤ s.address) segments.now }
+    requires high { All (λ s. s.address + length s.bytes ≤ STACK_TOP) segments.now }
     ensures { bus.new.user ≡ loaded segments.now bus.old.user }
 {
     for i in 0..segments.len() {
@@ -35,7 +37,7 @@ fn load(bus: &mut Bus, segments: &Segments)
 
 /// The bus at the start: the user area is zeros but for the segments, and the main vars at the stack's top.
 pub fn first_bus(alloc: Global, segments: &Segments, args: &Words) -> Result<Bus, AllocError>
-    requires fit { All IsFitSegment segments.now }
+    requires fit { All (IsFitSegment user_rules.areas) segments.now }
     requires arguments { main_vars_length args.now ≤ MAIN_VARS_LIMIT }
     ensures { IfOk result (λ bus. bus.user ≡ placed (loaded segments.now (zeros user_size)) STACK_TOP (main_vars_text args.now STACK_TOP)) }
 {

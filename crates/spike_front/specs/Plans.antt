@@ -5,6 +5,7 @@ use Rattle.fe_base.specs.Limits.{assembly_file_limit, main_vars_limit}
 use Rattle.fe_base.specs.WordLists.{main_vars_length}
 use Rattle.folder_tree.specs.Tree.{Tree, IsWellFormed}
 use Rattle.elf_loader.specs.ElfFile.{IsFit, fault_of, image_of}
+use Rattle.elf_loader.specs.Rules.{user_rules}
 use Rattle.elf_loader.specs.declared.image.Image.{Image}
 use Rattle.elf_loader.specs.declared.fault.ElfFault.{ElfFault}
 use Rattle.asm_items.specs.ItemMeaning.{Part, assembled}
@@ -166,7 +167,7 @@ IsPlan (Run image args limit) planned = planned ≡ run image args limit
 abbrev pub FitsPlan : Plan → Type 0
 FitsPlan (Refuse answer) = IsRefusal answer
 FitsPlan (Put text) = ⊤
-FitsPlan (Run image args limit) = IsFit image × (main_vars_length args ≤ main_vars_limit) × (0 < limit)
+FitsPlan (Run image args limit) = IsFit user_rules image × (main_vars_length args ≤ main_vars_limit) × (0 < limit)
 
 -- a plan for a program with these arguments and this limit: a refusal of the file or of the arguments' length, or a run
 abbrev pub IsProgramPlan : List (List ℕ) → ℕ → Plan → Type 0
@@ -174,7 +175,7 @@ IsProgramPlan args limit (Refuse answer) = (stage_of answer ≡ file_refused)
     × ((n : ℕ) → answer ≡ ArgsTooLong n → (n ≡ main_vars_length args) × (main_vars_limit < n))
 IsProgramPlan args limit (Put text) = ⊥
 IsProgramPlan args limit (Run image arguments most) =
-    IsFit image × (main_vars_length arguments ≤ main_vars_limit) × (most ≡ limit)
+    IsFit user_rules image × (main_vars_length arguments ≤ main_vars_limit) × (most ≡ limit)
 
 -- a plan for an assembly file: a refusal of the file, or the words of one
 abbrev pub IsSourcePlan : Plan → Type 0

@@ -4,6 +4,7 @@ ghost use Rattle.fe_base.specs.Limits.{main_vars_limit};
 ghost use Rattle.fe_base.specs.Outside.{capacity};
 ghost use Rattle.fe_base.specs.WordLists.{main_vars_length};
 ghost use Rattle.elf_loader.specs.ElfFile.{IsFit};
+ghost use Rattle.elf_loader.specs.Rules.{user_rules};
 ghost use Rattle.plain_machine.specs.Direct.{World, Tells, HasRoomFor, step_puts};
 ghost use Rattle.spike_front.specs.Answers.{IsEarly, IsRunAnswer};
 ghost use Rattle.spike_front.specs.Causes.{RoseFor};
@@ -35,7 +36,7 @@ pub fn run_program<I: Source, C: Sink, F: Folder>(
     console: &mut C,
     folder: &mut F,
 ) -> RunEnd
-    requires fit { IsFit image }
+    requires fit { IsFit user_rules image }
     requires short { main_vars_length args.now ≤ main_vars_limit }
     requires some { 0 < limit }
     ensures ran { (w : World) → Tells w (I.left input.old) (C.held console.old) (F.tree folder.old)

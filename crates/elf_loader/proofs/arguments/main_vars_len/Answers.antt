@@ -6,7 +6,12 @@ use Rattle.elf_loader.proofs.arguments.main_vars_len.Goals as goal
 
 pub overflow_add-length-in-loop-i-2 : goal.overflow_add-length-in-loop-i-2
 overflow_add-length-in-loop-i-2 c =
-    omega (arith, strings_length-drop c.args.args.now c.loop-i.i c.word.result.now c.word.ensures, c.loop-i.invariant, c.len.ensures.fits)
+    omega (
+      arith,
+      strings_length-drop c.args.args.now c.loop-i.i c.word.result.now c.word.ensures,
+      c.loop-i.invariant,
+      c.len.ensures.fits,
+    )
 
 pub loop-i-preserved : goal.loop-i-preserved
 loop-i-preserved c = omega (arith, strings_length-drop c.args.args.now c.loop-i.i c.word.result.now c.word.ensures)

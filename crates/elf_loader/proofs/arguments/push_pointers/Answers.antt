@@ -8,6 +8,7 @@ overflow_add-at-in-loop-i c =
 
 pub loop-i-preserved : goal.loop-i-preserved
 loop-i-preserved c = (
-  pointers_preserved c.args.args.now c.loop-i.i c.loop-i.at c.word.result.now _ _ _ c.word.ensures (c.in_ok-push_dword.ensures) c.loop-i.invariant.0,
+  pointers_preserved c.args.args.now c.loop-i.i c.loop-i.at c.word.result.now _ _ _ c.word.ensures
+      (c.in_ok-push_dword.ensures) c.loop-i.invariant.0,
   omega (arith, strings_length-drop c.args.args.now c.loop-i.i c.word.result.now c.word.ensures, c.loop-i.invariant.1),
 )

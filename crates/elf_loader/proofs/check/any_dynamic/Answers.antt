@@ -7,9 +7,11 @@ use Rattle.elf_loader.proofs.check.any_dynamic.Goals as goal
 pub loop-i-preserved : goal.loop-i-preserved
 loop-i-preserved c =
     let fails : is_dynamic c.get-header.result ≡ false = grind (arith, common_steps) in
-    c.loop-i.invariant ∙ list_any-next is_dynamic c.args.headers.now c.loop-i.i c.get-header.result c.get-header.ensures fails
+    c.loop-i.invariant ∙ list_any-next is_dynamic c.args.headers.now c.loop-i.i c.get-header.result c.get-header.ensures
+    fails
 
 pub returns-then-is_dynamic : goal.returns-then-is_dynamic
 returns-then-is_dynamic c =
     let passes : is_dynamic c.get-header.result ≡ true = grind (arith, common_steps) in
-    sym (c.loop-i.invariant ∙ list_any-here is_dynamic c.args.headers.now c.loop-i.i c.get-header.result c.get-header.ensures passes)
+    sym (c.loop-i.invariant ∙ list_any-here is_dynamic c.args.headers.now c.loop-i.i c.get-header.result
+    c.get-header.ensures passes)

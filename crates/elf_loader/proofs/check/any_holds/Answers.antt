@@ -7,9 +7,11 @@ use Rattle.elf_loader.proofs.check.any_holds.Goals as goal
 pub loop-i-preserved : goal.loop-i-preserved
 loop-i-preserved c =
     let fails : (segment_holds c.args.address) c.get-header.result ≡ false = grind (arith, common_steps) in
-    c.loop-i.invariant ∙ list_any-next (segment_holds c.args.address) c.args.headers.now c.loop-i.i c.get-header.result c.get-header.ensures fails
+    c.loop-i.invariant ∙ list_any-next (segment_holds c.args.address) c.args.headers.now c.loop-i.i c.get-header.result
+    c.get-header.ensures fails
 
 pub returns-then-holds : goal.returns-then-holds
 returns-then-holds c =
     let passes : segment_holds c.args.address c.get-header.result ≡ true = grind (arith, common_steps) in
-    sym (c.loop-i.invariant ∙ list_any-here (segment_holds c.args.address) c.args.headers.now c.loop-i.i c.get-header.result c.get-header.ensures passes)
+    sym (c.loop-i.invariant ∙ list_any-here (segment_holds c.args.address) c.args.headers.now c.loop-i.i
+    c.get-header.result c.get-header.ensures passes)

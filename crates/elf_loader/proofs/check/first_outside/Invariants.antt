@@ -4,4 +4,5 @@ use Rattle.elf_loader.specs.ProgramHeader.{is_outside}
 use Rattle.elf_loader.proofs.check.first_outside.Given as goal
 
 abbrev pub invariant-loop-i : goal.invariant-loop-i
-invariant-loop-i l = position_from (is_outside l.areas) 0 l.headers ≡ position_from (is_outside l.areas) l.i (drop l.i l.headers)
+invariant-loop-i l = position_from (is_outside l.areas) 0 l.headers
+    ≡ position_from (is_outside l.areas) l.i (drop l.i l.headers)
