@@ -8,7 +8,8 @@ or_none : {X : Type 0} (x : Option X) → x ≡ option_or x None
 or_none None = refl
 or_none (Some y) = refl
 
-put_at : {X : Type 0} (b : Bool) (x : Option X) (y : X) → (b ≡ true → x ≡ None) → cond b (Some y) x ≡ option_or x (cond b (Some y) None)
+put_at : {X : Type 0} (b : Bool) (x : Option X) (y : X) → (b ≡ true → x ≡ None)
+    → cond b (Some y) x ≡ option_or x (cond b (Some y) None)
 put_at true x y free = ap (λ (o : Option _). option_or o (Some y)) (sym (free refl))
 put_at false x y free = or_none x
 

@@ -3,3 +3,4 @@ pub mod Offsets
 pub mod Progress
 pub mod Spots
 pub mod Totals
+pub mod Lengths

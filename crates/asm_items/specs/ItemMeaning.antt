@@ -1,5 +1,8 @@
--- What a list of items stands for at a base address: at each place, instructions as values or bytes; or its first fault.
-use Rattle.std.specs.Prelude.{◌≡◌, ℕ, ◌+◌, ◌-◌, ◌*◌, ◌/◌, ◌%◌, ◌^◌, ◌<◌, ℤ, pos, negsuc, ◌+ℤ◌, ◌-ℤ◌, Bool, false, if◌then◌else◌, ◌==◌, ◌&&◌, List, [], ◌∷◌, ◌++◌, length, replicate, Option, Some, None, Result, Ok, Err, ⊤}
+-- What a list of items stands for at a base address: at each place, instructions as values or bytes; or its first
+-- fault.
+use Rattle.std.specs.Prelude.{◌≡◌, ℕ, ◌+◌, ◌-◌, ◌*◌, ◌/◌, ◌%◌, ◌^◌, ◌<◌, ℤ, pos, negsuc, ◌+ℤ◌, ◌-ℤ◌, Bool, false}
+use Rattle.std.specs.Prelude.{if◌then◌else◌, ◌==◌, ◌&&◌, List, [], ◌∷◌, ◌++◌, length, replicate, Option, Some, None}
+use Rattle.std.specs.Prelude.{Result, Ok, Err, ⊤}
 use Rattle.std.specs.Int.{w32, w64, to_le_bytes, cast_unsigned}
 use Rattle.std.specs.Str.{bytes_eq}
 use Rattle.rv_decode.specs.InsnTable.{insn_of}
@@ -59,7 +62,8 @@ branch Ge rs1 rs2 offset = Bge rs1 rs2 offset
 branch Ltu rs1 rs2 offset = Bltu rs1 rs2 offset
 branch Geu rs1 rs2 offset = Bgeu rs1 rs2 offset
 
--- AUIPC with the upper 20 bits of the offset + 0x800, and ADDI with the rest, so that rd holds the address (RISC-V Assembly Programmer's Manual, la)
+-- AUIPC with the upper 20 bits of the offset + 0x800, and ADDI with the rest, so that rd holds the address (RISC-V
+-- Assembly Programmer's Manual, la)
 abbrev pub address_parts : ℕ → ℤ → List Part
 address_parts rd offset =
     let raised = cast_unsigned w32 (offset +ℤ pos 0x800) in
@@ -81,7 +85,8 @@ is_within least greatest z = le_z least z && le_z z greatest
 abbrev pub offset_found : ℕ → ℕ → ℕ → Option (ℕ × ℕ) → ℤ → ℤ → Result ℤ AsmFault
 offset_found base index place None least greatest = Err (UnknownLabel index)
 offset_found base index place (Some found) least greatest =
-    if is_within least greatest (offset base place found.1) then Ok (offset base place found.1) else Err (OutOfReach index)
+    if is_within least greatest (offset base place found.1) then Ok (offset base place found.1)
+    else Err (OutOfReach index)
 
 -- the parts of an offset, or the fault
 abbrev pub with_offset : Result ℤ AsmFault → (ℤ → List Part) → Result (List Part) AsmFault
@@ -97,16 +102,19 @@ first_only index (Some found) = if found.0 == index then Ok [] else Err (LabelTw
 abbrev pub filled : List ℕ → List ℕ
 filled text = text ++ replicate (4 * ((length text + 3) / 4) - length text) 0
 
--- what an item stands for at its index and place, where labels gives the index and place of each name. A branch reaches -4,096 to
--- 4,094, a jump -1,048,576 to 1,048,574 and an address -2,147,485,696 to 2,147,481,599 (Unprivileged ISA, 2.4.1 and 2.5)
+-- what an item stands for at its index and place, where labels gives the index and place of each name. A branch reaches
+-- -4,096 to 4,094, a jump -1,048,576 to 1,048,574 and an address -2,147,485,696 to 2,147,481,599 (Unprivileged ISA,
+-- 2.4.1 and 2.5)
 abbrev pub parts_of : (List ℕ → Option (ℕ × ℕ)) → ℕ → ℕ → ℕ → Item → Result (List Part) AsmFault
 parts_of labels base index place (Plain insn) = Ok (Code insn ∷ [])
 parts_of labels base index place (Branch cond rs1 rs2 name) =
-    with_offset (offset_found base index place (labels name) (negsuc 4095) (pos 4094)) (λ z. Code (branch cond rs1 rs2 z) ∷ [])
+    with_offset (offset_found base index place (labels name) (negsuc 4095) (pos 4094))
+    (λ z. Code (branch cond rs1 rs2 z) ∷ [])
 parts_of labels base index place (Jump rd name) =
     with_offset (offset_found base index place (labels name) (negsuc 1048575) (pos 1048574)) (λ z. Code (Jal rd z) ∷ [])
 parts_of labels base index place (Address rd name) =
-    with_offset (offset_found base index place (labels name) (negsuc 2147485695) (pos 2147481599)) (λ z. address_parts rd z)
+    with_offset (offset_found base index place (labels name) (negsuc 2147485695) (pos 2147481599))
+    (λ z. address_parts rd z)
 parts_of labels base index place (Label name) = first_only index (labels name)
 parts_of labels base index place (Dword value) = Ok (Data (to_le_bytes w64 value) ∷ [])
 parts_of labels base index place (Ascii text) = Ok (Data (filled text) ∷ [])
@@ -135,11 +143,13 @@ labels_of items name = find_label name 0 0 items
 unfoldable pub assembled : ℕ → List Item → Result (List Part) AsmFault
 assembled base items = parts_from (labels_of items) base 0 0 items
 
--- the bytes hold the parts one after another: bytes as they are, an instruction as the four bytes, lowest first, of a word that decodes to it
+-- the bytes hold the parts one after another: bytes as they are, an instruction as the four bytes, lowest first, of a
+-- word that decodes to it
 abbrev pub Spells : List Part → List ℕ → Type 0
 Spells [] bytes = bytes ≡ []
 Spells (Code insn ∷ parts) bytes =
-    (word : ℕ) × (rest : List ℕ) × (word < 2 ^ 32) × (insn_of word ≡ Some insn) × (bytes ≡ to_le_bytes w32 word ++ rest) × Spells parts rest
+    (word : ℕ) × (rest : List ℕ) × (word < 2 ^ 32) × (insn_of word ≡ Some insn) × (bytes ≡ to_le_bytes w32 word ++ rest)
+    × Spells parts rest
 Spells (Data data_bytes ∷ parts) bytes = (rest : List ℕ) × (bytes ≡ data_bytes ++ rest) × Spells parts rest
 
 -- each register is below 32, and each field of an instruction is in its range

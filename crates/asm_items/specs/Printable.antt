@@ -34,6 +34,7 @@ is_item_printable (item.Label name) = true
 is_item_printable (item.Dword value) = true
 is_item_printable (item.Ascii text) = list_all is_text_byte text
 
--- the item can be written as assembly text and read back: each register is below 32, each field is in its range, and it has a text
+-- the item can be written as assembly text and read back: each register is below 32, each field is in its range, and it
+-- has a text
 abbrev pub IsPrintable : Item → Type 0
 IsPrintable it = IsItemFit it × (is_item_printable it ≡ true)

@@ -1,8 +1,12 @@
 // From items to code.
-ghost use Rattle.std.specs.Prelude.{◌≡◌, ◌<◌, ◌≤◌, ◌+◌, ◌*◌, ◌++◌, ◌^◌, [], ◌∷◌, ℕ, List, length, pos, negsuc, replicate, OnOk, MatchResult, IfOk, IfSome, All, true, ◌≤ℤ◌, Some, None, if◌then◌else◌};
+ghost use Rattle.std.specs.Prelude.{◌≡◌, ◌<◌, ◌≤◌, ◌+◌, ◌*◌, ◌++◌, ◌^◌, [], ◌∷◌, ℕ, List, length, pos, negsuc};
+ghost use Rattle.std.specs.Prelude.{replicate, OnOk, MatchResult, IfOk, IfSome, All, true, ◌≤ℤ◌, Some, None};
+ghost use Rattle.std.specs.Prelude.{if◌then◌else◌};
 ghost use Rattle.std.specs.Int.{w32, w64, to_le_bytes};
 ghost use Rattle.rv_decode.specs.Fits.{FitsSignedBits, IsEven, IsFit};
-ghost use Rattle.asm_items.specs.ItemMeaning.{address, address_parts, assembled, branch, Code as IsCode, Fails, filled, HoldsParts, IsItemFit, parts_of, Grows, offset, offset_found, is_within, Puts, total_words};
+ghost use Rattle.asm_items.specs.ItemMeaning.{address, address_parts, assembled, branch, Code as IsCode, Fails, filled};
+ghost use Rattle.asm_items.specs.ItemMeaning.{HoldsParts, IsItemFit, parts_of, Grows, offset, offset_found, is_within};
+ghost use Rattle.asm_items.specs.ItemMeaning.{Puts, total_words};
 ghost use Rattle.asm_items.specs.LabelMap.{look_up};
 ghost use Rattle.rv_decode.specs.declared.instruction.Insn.TheVariants.{Jal};
 
@@ -182,7 +186,8 @@ fn reached(
 fn checked_offset(here: Here, target: u64, least: i64, greatest: i64) -> Option<i64>
     requires place { address here.base here.place < 2 ^ 64 }
     requires target { address here.base target < 2 ^ 64 }
-    ensures value { result ≡ (if is_within least greatest (offset here.base here.place target) then Some (offset here.base here.place target) else None) }
+    ensures value { result ≡ (if is_within least greatest (offset here.base here.place target)
+        then Some (offset here.base here.place target) else None) }
     ensures within { IfSome result (λ z. (least ≤ℤ z) × (z ≤ℤ greatest)) }
     ensures even { IfSome result IsEven }
 {
@@ -202,7 +207,9 @@ fn checked_offset(here: Here, target: u64, least: i64, greatest: i64) -> Option<
 pub fn assemble(alloc: Global, items: &[Item], base: u64) -> Result<Code, AsmFault>
     requires fit { All IsItemFit items.now }
     requires size { address base (total_words items.now) < 2 ^ 64 }
-    ensures { MatchResult result (λ code. (code.base ≡ base) × HoldsParts code.bytes (assembled base items.now)) (λ fault. Fails fault (assembled base items.now)) }
+    ensures meaning { MatchResult result (λ code. (code.base ≡ base) × HoldsParts code.bytes (assembled base items.now))
+        (λ fault. Fails fault (assembled base items.now)) }
+    ensures length { IfOk result (λ code. length code.bytes ≡ 4 * total_words items.now) }
 {
     let labels = Labels::of(alloc, items)?;
     let mut bytes = Bytes::new(alloc);

@@ -1,5 +1,6 @@
 // Where the labels of a list of items stand.
-ghost use Rattle.std.specs.Prelude.{◌≡◌, ◌<◌, ◌≤◌, ◌*◌, ◌+◌, ◌^◌, List, ℕ, IfOk, OnOk, OnErr, Some, None, if◌then◌else◌};
+ghost use Rattle.std.specs.Prelude.{◌≡◌, ◌<◌, ◌≤◌, ◌*◌, ◌+◌, ◌^◌, List, ℕ, IfOk, OnOk, OnErr, Some, None};
+ghost use Rattle.std.specs.Prelude.{if◌then◌else◌};
 ghost use Rattle.std.specs.Option.{option_or};
 ghost use Rattle.asm_items.specs.LabelMap.{look_up};
 ghost use Rattle.asm_items.specs.ItemMeaning.{is_label, labels_of, total_words, words_of};
@@ -38,7 +39,8 @@ impl<'a> Labels<'a> {
 
     // Keeps where the item stands, if it is the first label of its name.
     fn note(&mut self, item: &'a Item, spot: Spot) -> Result<(), AllocError>
-        ensures { OnOk result ((name : List ℕ) → look_up self.new name ≡ option_or (look_up self.old name) (if is_label name item.now then Some spot else None)) }
+        ensures { OnOk result ((name : List ℕ) → look_up self.new name
+            ≡ option_or (look_up self.old name) (if is_label name item.now then Some spot else None)) }
     {
         if let Item::Label(name) = item {
             let name = name.as_slice();

@@ -10,12 +10,6 @@ use Rattle.proxy_kernel.specs.Image.{HoldsInsns, word_at}
 abbrev pub codes_of : List Insn → List Part
 codes_of insns = map Code insns
 
-pub spelled_length : (insns : List Insn) (bytes : List ℕ) → Spells (codes_of insns) bytes → length bytes ≡ 4 * length insns
-spelled_length [] bytes s = ap length s
-spelled_length (insn ∷ insns) bytes s =
-    let rest : length s.1 ≡ 4 * length insns = spelled_length insns s.1 s.5 in
-    ap length s.4 ∙ omega arith
-
 first_word : (word : ℕ) (rest : List ℕ) → word < 2 ^ 32 → word_at (to_le_bytes w32 word ++ rest) 0 ≡ word
 first_word word rest h = from_le_bytes-to_le_bytes_4 word h
 

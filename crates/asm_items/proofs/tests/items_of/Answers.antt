@@ -9,6 +9,7 @@ loop-row-preserved c =
     let fit : IsItemFit c.in_ok-ok_or.field-0 = rw c.in_ok-ok_or.ensures.ok_part at c.item_of.ensures.fit in
     let short : words_of c.in_ok-ok_or.field-0 ≤ 256 = rw c.in_ok-ok_or.ensures.ok_part at c.item_of.ensures.short in
     record {
-      fit = rw c.in_ok-push.ensures.ok (All-push IsItemFit c.loop-row.items c.in_ok-ok_or.field-0 c.loop-row.invariant.fit fit);
+      fit = rw c.in_ok-push.ensures.ok (All-push IsItemFit c.loop-row.items c.in_ok-ok_or.field-0
+          c.loop-row.invariant.fit fit);
       short = rw (c.in_ok-push.ensures.ok, total_words-push c.loop-row.items c.in_ok-ok_or.field-0) (omega arith);
     }

@@ -4,8 +4,8 @@ use Rattle.asm_items.specs.declared.item.Item.{Item}
 use Rattle.asm_items.specs.ItemMeaning.{assembled, HoldsParts, Spells, total_words}
 use Rattle.proxy_kernel.specs.Kernel.{kernel}
 use Rattle.proxy_kernel.specs.KernelWords.{kernel_insns}
-use Rattle.proxy_kernel.proofs.Computed.{kernel_assembles, kernel_decodes, kernel_length, kernel_size}
-use Rattle.proxy_kernel.proofs.Spelled.{codes_of, spelled_length, spelled_words}
+use Rattle.proxy_kernel.proofs.Computed.{kernel_assembles, kernel_decodes, kernel_size}
+use Rattle.proxy_kernel.proofs.Spelled.{codes_of, spelled_words}
 use Rattle.proxy_kernel.proofs.image.kernel_image.Goals as goal
 
 pub assemble-requires-clause-size : goal.assemble-requires-clause-size
@@ -17,15 +17,13 @@ pub returns-in-Ok-clause-insns : goal.returns-in-Ok-clause-insns
 returns-in-Ok-clause-insns c =
     let same : c.as_slice.result.now ≡ kernel = c.as_slice.ensures ∙ c.in_ok-items.ensures.items in
     let spells : Spells (codes_of kernel_insns) c.in-Ok.code.bytes =
-    subst (λ m. HoldsParts c.in-Ok.code.bytes m) (ap (λ (items : List Item). assembled kernel_start items) same ∙ kernel_assembles) c.in-Ok.ensures.1 in
+    subst (λ m. HoldsParts c.in-Ok.code.bytes m) (ap (λ (items : List Item). assembled kernel_start items) same ∙ kernel_assembles) c.in-Ok.ensures.meaning.1 in
     spelled_words kernel_insns c.in-Ok.code.bytes spells
 
 pub returns-in-Ok-clause-length : goal.returns-in-Ok-clause-length
 returns-in-Ok-clause-length c =
     let same : c.as_slice.result.now ≡ kernel = c.as_slice.ensures ∙ c.in_ok-items.ensures.items in
-    let spells : Spells (codes_of kernel_insns) c.in-Ok.code.bytes =
-    subst (λ m. HoldsParts c.in-Ok.code.bytes m) (ap (λ (items : List Item). assembled kernel_start items) same ∙ kernel_assembles) c.in-Ok.ensures.1 in
-    omega (arith, spelled_length kernel_insns c.in-Ok.code.bytes spells, kernel_length)
+    omega (arith, ap total_words same, kernel_size, c.in-Ok.ensures.length)
 
 pub returns-in_err-items-clause-words : goal.returns-in_err-items-clause-words
 returns-in_err-items-clause-words c = kernel_decodes

@@ -16,7 +16,7 @@ returns-in-Ok-assemble-clause-told c =
     let bytes = c.in-Ok-assemble.code.bytes in
     let planned = planned_text (text_items c.args.text.now) in
     let read = text_read c.args.text.now items lines c.in-Ok.ensures.read in
-    let holds = subst (λ (xs : List Item). HoldsParts bytes (assembled 0 xs)) c.as_slice.ensures c.in-Ok-assemble.ensures.1 in
+    let holds = subst (λ (xs : List Item). HoldsParts bytes (assembled 0 xs)) c.as_slice.ensures c.in-Ok-assemble.ensures.meaning.1 in
     let text = c.in_ok-word_lines-in-Ok-assemble.ensures ∙ ap word_lines c.as_slice-in-Ok-assemble.ensures in
     let plan = subst (IsPlan (Put (word_lines bytes))) (sym read) (held_plan lines bytes (assembled 0 items) holds) in
     subst (λ (xs : List ℕ). IsPlan (Put xs) planned) (sym text) plan
