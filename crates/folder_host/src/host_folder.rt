@@ -1,6 +1,7 @@
 // The working directory behind the trait `Folder`.
-ghost use Rattle.std.specs.Prelude.{◌≡◌, ◌≤◌, IfErr, IfOk, IsErrOf, None, length};
+ghost use Rattle.std.specs.Prelude.{◌≡◌, ◌≤◌, ◌<◌, IfErr, IfOk, IsErrOf, None, false, length};
 ghost use Rattle.fe_base.specs.Outside.{Rose};
+ghost use Rattle.folder_tree.specs.Paths.{leads_out};
 ghost use Rattle.folder_tree.specs.declared.folder.FolderStop.{FolderStop as Stop};
 
 use crate::names::{is_file, kind_of, name_of};
@@ -25,7 +26,9 @@ pub struct HostFolder<R: Files + AllocGlobal + Drop> {
 }
 
 // Opens a file to be read and written, or read alone where it may not be written.
-fn open_existing<R: Files>(rt: &R, name: &str) -> io::Result<R::File> {
+fn open_existing<R: Files>(rt: &R, name: &str) -> io::Result<R::File>
+    requires { leads_out name.now ≡ false }
+{
     match OpenOptions::new().read(true).write(true).open(rt, name) {
         Ok(file) => Ok(file),
         Err(_) => OpenOptions::new().read(true).open(rt, name),
@@ -33,7 +36,9 @@ fn open_existing<R: Files>(rt: &R, name: &str) -> io::Result<R::File> {
 }
 
 // Opens a file that isn't there yet.
-fn open_new<R: Files>(rt: &R, name: &str) -> io::Result<R::File> {
+fn open_new<R: Files>(rt: &R, name: &str) -> io::Result<R::File>
+    requires { leads_out name.now ≡ false }
+{
     OpenOptions::new()
         .read(true)
         .write(true)
@@ -63,7 +68,9 @@ fn write_from<F: Write + Seek>(file: &mut F, at: u64, bytes: &[u8]) -> io::Resul
 }
 
 // Removes a directory; false where something stands in it.
-fn remove_empty(rt: &impl Files, name: &str) -> io::Result<bool> {
+fn remove_empty(rt: &impl Files, name: &str) -> io::Result<bool>
+    requires { leads_out name.now ≡ false }
+{
     match remove_dir(rt, name) {
         Ok(()) => Ok(true),
         Err(error) if error.kind() == ErrorKind::DirectoryNotEmpty => Ok(false),
@@ -108,12 +115,14 @@ impl<R: Files + AllocGlobal + Drop> HostFolder<R> {
         FolderStop::NoMemory
     }
 
-    // Holds an open file under a new number.
+    // Holds an open file under a new number, which is that of no other open before or after it.
     fn hold(&mut self, file: R::File) -> Result<u64, FolderStop>
         ensures stop { IfErr result (λ stop. stop ≡ FolderStop.NoMemory) }
         ensures short { IfErr result (λ _. Rose self.old.short self.new.short) }
         ensures later { self.old.short ≤ self.new.short }
         ensures faults { self.new.faults ≡ self.old.faults }
+        ensures own { IfOk result (λ number. self.old.next ≤ number) }
+        ensures next { IfOk result (λ number. number < self.new.next) }
     {
         let number = self.next;
         let Some(next) = number.checked_add(1) else {

@@ -21,9 +21,12 @@ pub fn name_of(path: &Path) -> &str
 }
 
 // The name of the directory that a name stands in.
-fn parent_of(name: &str) -> &str {
-    match name.rsplit_once('/') {
-        Some((parent, _)) => parent,
+fn parent_of(name: &str) -> &str
+    requires { leads_out name.now ≡ false }
+    ensures { leads_out result.now ≡ false }
+{
+    match name.rfind('/') {
+        Some(end) => &name[..end],
         None => ".",
     }
 }
@@ -38,12 +41,16 @@ fn kind_in(found: &Metadata) -> io::Result<PathKind> {
     }
 }
 
-fn kind_at(rt: &impl Files, name: &str) -> io::Result<PathKind> {
+fn kind_at(rt: &impl Files, name: &str) -> io::Result<PathKind>
+    requires { leads_out name.now ≡ false }
+{
     kind_in(&metadata(rt, name)?)
 }
 
 // What a name is at which the system finds nothing.
-fn missing_kind(rt: &impl Files, name: &str) -> io::Result<PathKind> {
+fn missing_kind(rt: &impl Files, name: &str) -> io::Result<PathKind>
+    requires { leads_out name.now ≡ false }
+{
     match kind_at(rt, parent_of(name)) {
         Ok(_) => Ok(PathKind::Free),
         Err(error) if error.kind() == ErrorKind::NotFound => Ok(PathKind::NoParent),
@@ -51,7 +58,9 @@ fn missing_kind(rt: &impl Files, name: &str) -> io::Result<PathKind> {
     }
 }
 
-pub fn kind_of(rt: &impl Files, name: &str) -> io::Result<PathKind> {
+pub fn kind_of(rt: &impl Files, name: &str) -> io::Result<PathKind>
+    requires { leads_out name.now ≡ false }
+{
     match kind_at(rt, name) {
         Err(error) if error.kind() == ErrorKind::NotFound => missing_kind(rt, name),
         Err(error) if error.kind() == ErrorKind::NotADirectory => Ok(PathKind::UnderFile),
@@ -60,6 +69,8 @@ pub fn kind_of(rt: &impl Files, name: &str) -> io::Result<PathKind> {
 }
 
 // Whether a regular file stands at a name.
-pub fn is_file(rt: &impl Files, name: &str) -> bool {
+pub fn is_file(rt: &impl Files, name: &str) -> bool
+    requires { leads_out name.now ≡ false }
+{
     matches!(kind_at(rt, name), Ok(PathKind::File))
 }
