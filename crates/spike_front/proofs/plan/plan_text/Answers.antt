@@ -27,6 +27,6 @@ returns-in-Ok-assemble-clause-kind c =
     let lines = c.in-Ok.found.lines in
     let bytes = c.in-Ok-assemble.code.bytes in
     let read = source_of_file (Some c.args.text.now) c.args.text.now refl c.requires ∙ text_read c.args.text.now items lines c.in-Ok.ensures.read in
-    let holds = subst (λ (xs : List Item). HoldsParts bytes (assembled 0 xs)) c.as_slice.ensures c.in-Ok-assemble.ensures.1 in
+    let holds = subst (λ (xs : List Item). HoldsParts bytes (assembled 0 xs)) c.as_slice.ensures c.in-Ok-assemble.ensures.meaning.1 in
     let text = c.in_ok-word_lines-in-Ok-assemble.ensures ∙ ap word_lines c.as_slice-in-Ok-assemble.ensures in
     subst ListsSource (sym text) (held_source c.args.text.now lines bytes (assembled 0 items) read holds)
