@@ -1,8 +1,8 @@
-// The words of assembly text, each table stated once: `MNEMONICS` has the names of instructions and of
-// directives and says what each stands for, `REGISTERS` has the names of registers. The definition of the
-// text form, its reader and its printer all look names up here: `op_named` and `register_named` read a
-// name, `name_of` gives it back, and `registers_insn` and its kin make the instruction of a mnemonic.
-// `cut` takes a text apart at a byte, as a row's name at the zeros behind it.
+// The words of assembly text, each table stated once: `MNEMONICS` has the names of instructions and of directives and
+// says what each stands for, `REGISTERS` has the names of registers. The definition of the text form, its reader and
+// its printer all look names up here: `op_named` and `register_named` read a name, `name_of` gives it back, and
+// `registers_insn` and its kin make the instruction of a mnemonic. `cut` takes a text apart at a byte, as a row's name
+// at the zeros behind it.
 #![tactic(auto)]
 
 mod cuts;

@@ -1,10 +1,10 @@
 // Assembly text and the items that it stands for, both ways.
 //
-// `read_asm` gives exactly the items of a text, each with its line, or the first fault; any bytes are a
-// text. `specs/Layout` says what lines, comments and blanks are, `specs/Pieces` what an operand stands for,
-// `specs/Reading` what a line stands for, `specs/Texts` what a whole text does. `specs/FirstFault` lists all
-// faults of a line with their places; the one that `read_asm` tells is the first of them. `print_asm` writes
-// items as `specs/Printing` says, and what it wrote reads back as these items.
+// `read_asm` gives exactly the items of a text, each with its line, or the first fault; any bytes are a text.
+// `specs/Layout` says what lines, comments and blanks are, `specs/Pieces` what an operand stands for, `specs/Reading`
+// what a line stands for, `specs/Texts` what a whole text does. `specs/FirstFault` lists all faults of a line with
+// their places; the one that `read_asm` tells is the first of them. `print_asm` writes items as `specs/Printing` says,
+// and what it wrote reads back as these items.
 #![tactic(auto)]
 
 mod fault;

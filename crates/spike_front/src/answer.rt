@@ -10,8 +10,8 @@ pub enum Answer {
     Done,
     /// The program ended by itself, with this status.
     Exited(u8),
-    /// The words fail: the number of how, and the index of the word that does, or the number of
-    /// words where one is missing.
+    /// The words fail: the number of how, and the index of the word that does, or the number of words where one is
+    /// missing.
     Usage(u8, u64),
     /// The word names no file of the folder.
     NoProgram,
