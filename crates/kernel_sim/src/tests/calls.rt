@@ -12,6 +12,7 @@ pub enum Call {
 }
 
 impl Call {
+    /// What a7 holds.
     pub fn number(&self) -> u64 {
         match *self {
             Call::Posts(number, _, _) => number,
@@ -19,6 +20,7 @@ impl Call {
         }
     }
 
+    /// What a0 to a5 hold.
     pub fn arguments(&self) -> [u64; 6] {
         match *self {
             Call::Posts(_, arguments, _) => arguments,
@@ -44,8 +46,8 @@ const LONG_PATH: u64 = 0xffff_ffff_ffff_ffdc;
 // The directory number -100.
 const HERE: u64 = 0xffff_ffff_ffff_ff9c;
 
-/// A program by LLVM's assembler: it gives the registers values of their own, x8 the place of the first row, and then makes
-/// the call of each row, which is a0 to a5 and a7.
+/// A program by LLVM's assembler: it gives the registers values of their own, x8 the place of the first row, and then
+/// makes the call of each row, which is a0 to a5 and a7.
 pub static PROGRAM: [u32; 33] = [
     0x0410_0093,
     0x0c30_0193,

@@ -9,5 +9,7 @@ use Rattle.kernel_sim.proofs.tests.target.place_image.Goals as goal
 pub returns : goal.returns
 returns c =
     let high : kernel_start ≤ kernel_start = omega arith in
-    rw (with_bus_bytes-kernel c.args.bus.now kernel_start (take (length c.args.image.now) c.copy_from_slice.new.self) high, c.copy_from_slice.ensures.after, take-length c.args.image.now)
+    let placed = take (length c.args.image.now) c.copy_from_slice.new.self in
+    let written = with_bus_bytes-kernel c.args.bus.now kernel_start placed high in
+    rw (written, c.copy_from_slice.ensures.after, take-length c.args.image.now)
     (image_loads c.args.image.now _ c.requires.insns c.requires.length)

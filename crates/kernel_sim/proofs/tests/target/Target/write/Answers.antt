@@ -6,4 +6,6 @@ use Rattle.kernel_sim.proofs.tests.target.Target.write.Goals as goal
 -- src/tests/target.rt
 pub invariant_of-self : goal.invariant_of-self
 invariant_of-self c =
-    (c.host_write-self-inside.ensures.holds, c.self.invariant.1, subst (λ (b : BusState). IsBus b) (sym c.host_write-self-inside.ensures.bus) (IsBus-with_beat _ c.args.at c.args.value c.ranges.value.fits c.self.invariant.2))
+    let bus = c.host_write-self-inside.ensures.bus in
+    let bytes = IsBus-with_beat _ c.args.at c.args.value c.ranges.value.fits c.self.invariant.2 in
+    (c.host_write-self-inside.ensures.holds, c.self.invariant.1, subst (λ (b : BusState). IsBus b) (sym bus) bytes)
