@@ -61,8 +61,7 @@ abbrev pub user_step_on : System → System
 user_step_on system = after_step system (seen (user_step (user_of system)) system)
 
 -- a step of a running hart in user mode, behind the PMP as the kernel sets it, is the user step, whose call or trap the
--- hart
--- takes, and it is counted
+-- hart takes, and it is counted
 abbrev pub UserStepsAgree : Type 0
 UserStepsAgree = (system : System) → system.hart.run ≡ Running → system.hart.mode ≡ User → IsFenced system.hart.csrs
     → hart_step system ≡ user_step_on (over system.bus (counted_step User system.hart))

@@ -29,8 +29,7 @@ pub fn host_writes_hold()
 {}
 
 /// Each step of the kernel lowers the number of steps left, but for a wait that goes on, a byte that is put or passed,
-/// and those
-/// behind the exit word.
+/// and those behind the exit word.
 pub fn steps_lower()
     ensures { StepsLower }
 {}

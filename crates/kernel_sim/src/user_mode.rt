@@ -1,8 +1,7 @@
 // A user program's steps on a hart, behind the PMP as the kernel sets it.
 //
 // An instruction of a hart in user mode, behind the PMP as the kernel sets it, is the user step of the direct machine:
-// a
-// next state, or a call, or a trap of the same cause and value. The hart's step takes that call or trap.
+// a next state, or a call, or a trap of the same cause and value. The hart's step takes that call or trap.
 ghost use Rattle.std.specs.Prelude.{◌≡◌};
 ghost use Rattle.rv_csr.specs.declared.privilege.Mode.TheVariants as mode_of;
 ghost use Rattle.guest_memory.specs.Bus.{IsBus};
