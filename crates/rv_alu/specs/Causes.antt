@@ -1,7 +1,8 @@
 -- Why a machine takes a trap.
 use Rattle.std.specs.Prelude.{ℕ}
 use Rattle.rv_alu.specs.declared.causes.Cause.{Cause}
-use Rattle.rv_alu.specs.declared.causes.Cause.TheVariants.{Misaligned, FetchAccess, Illegal, Breakpoint, LoadAccess, StoreAccess, UserCall, MachineCall}
+use Rattle.rv_alu.specs.declared.causes.Cause.TheVariants.{Misaligned, FetchAccess, Illegal, Breakpoint, LoadAccess}
+use Rattle.rv_alu.specs.declared.causes.Cause.TheVariants.{StoreAccess, UserCall, MachineCall}
 
 -- the number of a trap's cause (Privileged Architecture, 3.1.15, mcause)
 abbrev pub cause_number : Cause → ℕ

@@ -1,6 +1,7 @@
 -- The results of the operations on registers as whole-number formulas. Each operand and each result is a number below 2
 -- ^ 64.
-use Rattle.std.specs.Prelude.{ℕ, ◌+◌, ◌-◌, ◌*◌, ◌/◌, ◌%◌, ◌^◌, pos, ◌*ℤ◌, Bool, not, nat_lt, if◌then◌else◌, ◌==◌, bit_and, bit_or, bit_xor, int_lt, int_div, int_rem}
+use Rattle.std.specs.Prelude.{ℕ, ◌+◌, ◌-◌, ◌*◌, ◌/◌, ◌%◌, ◌^◌, pos, ◌*ℤ◌, Bool, not, nat_lt, if◌then◌else◌, ◌==◌}
+use Rattle.std.specs.Prelude.{bit_and, bit_or, bit_xor, int_lt, int_div, int_rem}
 use Rattle.rv_alu.specs.Numbers.{signed, signed_word, register_of, word_of, floor_div, low_word, extended_word, bit}
 use Rattle.rv_decode.specs.declared.instruction.Cond.{Cond}
 use Rattle.rv_decode.specs.declared.instruction.Cond.TheVariants as when

@@ -1,5 +1,6 @@
 -- The control and status registers: their numbers, what each keeps, and which accesses are illegal.
-use Rattle.std.specs.Prelude.{◌≡◌, ℕ, ◌+◌, ◌*◌, ◌/◌, ◌%◌, ◌^◌, ◌<◌, ◌==◌, Bool, true, false, Option, Some, None, if◌then◌else◌}
+use Rattle.std.specs.Prelude.{◌≡◌, ℕ, ◌+◌, ◌*◌, ◌/◌, ◌%◌, ◌^◌, ◌<◌, ◌==◌, Bool, true, false, Option, Some, None}
+use Rattle.std.specs.Prelude.{if◌then◌else◌}
 use Rattle.rv_decode.specs.Alignment.{instruction_alignment}
 use Rattle.rv_csr.specs.Fields.{bits, is_set, bit, aligned, instruction_aligned, mode_number, kept_mode}
 use Rattle.rv_csr.specs.Pmp.{PmpState, IsEntry, configuration, configured, no_entry, pmp_allows}
@@ -7,7 +8,8 @@ use Rattle.rv_csr.specs.declared.privilege.Access.{Access}
 use Rattle.rv_csr.specs.declared.privilege.Mode.{Mode}
 use Rattle.rv_csr.specs.declared.privilege.Mode.TheVariants.{User, Machine}
 use Rattle.rv_csr.specs.declared.table.Csr.{Csr}
-use Rattle.rv_csr.specs.declared.table.Csr.TheVariants.{Mstatus, Misa, Mie, Mtvec, Mcounteren, Mscratch, Mepc, Mcause, Mtval, Mip, Pmpcfg0, Pmpaddr0, Pmpaddr1, Mhartid}
+use Rattle.rv_csr.specs.declared.table.Csr.TheVariants.{Mstatus, Misa, Mie, Mtvec, Mcounteren, Mscratch, Mepc, Mcause}
+use Rattle.rv_csr.specs.declared.table.Csr.TheVariants.{Mtval, Mip, Pmpcfg0, Pmpaddr0, Pmpaddr1, Mhartid}
 
 -- what the registers keep: of mstatus MIE, MPIE and MPP (Privileged Architecture, 3.1.6); mtvec, mscratch, mepc, mcause
 -- and mtval (3.1.7, 3.1.13 to 3.1.16); and the entries of the PMP (3.7.1)
@@ -101,7 +103,11 @@ csr_value Mhartid csrs = 0
 -- nothing, and mhartid is not written (Privileged Architecture, 3.1 and 3.7.1)
 abbrev pub with_csr : Csr → ℕ → CsrState → CsrState
 with_csr Mstatus value csrs =
-    record csrs { mstatus_mie = is_set value 3; mstatus_mpie = is_set value 7; mstatus_mpp = kept_mode (bits value 11 2) }
+    record csrs {
+      mstatus_mie = is_set value 3;
+      mstatus_mpie = is_set value 7;
+      mstatus_mpp = kept_mode (bits value 11 2);
+    }
 with_csr Misa value csrs = csrs
 with_csr Mie value csrs = csrs
 with_csr Mtvec value csrs = record csrs { mtvec = aligned value }
@@ -112,7 +118,10 @@ with_csr Mcause value csrs = record csrs { mcause = value }
 with_csr Mtval value csrs = record csrs { mtval = value }
 with_csr Mip value csrs = csrs
 with_csr Pmpcfg0 value csrs = record csrs {
-  pmp = record { entry0 = configured csrs.pmp.entry0 (bits value 0 8); entry1 = configured csrs.pmp.entry1 (bits value 8 8) };
+  pmp = record {
+    entry0 = configured csrs.pmp.entry0 (bits value 0 8);
+    entry1 = configured csrs.pmp.entry1 (bits value 8 8);
+  };
 }
 with_csr Pmpaddr0 value csrs =
     record csrs { pmp = record csrs.pmp { entry0 = record csrs.pmp.entry0 { end = 4 * (value % 2 ^ 54) } } }

@@ -1,5 +1,5 @@
 pub mod CsrTable
 pub mod Fields
+pub mod OpenArea
 pub mod Pmp
 pub mod Traps
-pub mod Windows

@@ -1,5 +1,6 @@
 -- Physical memory protection, byte by byte (Privileged Architecture, 3.7).
-use Rattle.std.specs.Prelude.{◌≡◌, ℕ, ◌+◌, ◌*◌, ◌%◌, ◌^◌, ◌<◌, ◌==◌, ◌&&◌, Bool, false, not, Option, Some, None, unwrap_or, if◌then◌else◌}
+use Rattle.std.specs.Prelude.{◌≡◌, ℕ, ◌+◌, ◌*◌, ◌%◌, ◌^◌, ◌<◌, ◌==◌, ◌&&◌, Bool, false, not, Option, Some, None}
+use Rattle.std.specs.Prelude.{unwrap_or, if◌then◌else◌}
 use Rattle.fe_base.specs.ByteRanges.{every_byte, some_byte, is_between}
 use Rattle.rv_csr.specs.Fields.{bits, is_set, bit}
 use Rattle.rv_csr.specs.declared.pmp.PmpEntry.{PmpEntry}

@@ -1,10 +1,12 @@
 // The registers.
-ghost use Rattle.std.specs.Prelude.{◌≡◌, ◌<◌, ◌^◌};
+ghost use Rattle.std.specs.Prelude.{◌≡◌, ◌<◌, ◌≤◌, ◌^◌, IsTrue};
 ghost use Rattle.std.specs.Bool.{OnTrue, OnFalse};
 ghost use Rattle.core.specs.Bool.{then_some};
 ghost use Rattle.rv_csr.specs.CsrTable as spec;
 ghost use Rattle.rv_csr.specs.CsrTable.{reset_csrs, csr_value, with_csr, csr_read, csr_write, is_allowed, IsCsrs};
+ghost use Rattle.rv_csr.specs.OpenArea.{is_open};
 ghost use Rattle.rv_csr.specs.Traps.{after_trap, after_return};
+ghost use Rattle.rv_csr.specs.declared.privilege.Mode.TheVariants as mode_of;
 
 use crate::pmp::{Pmp, PmpEntry};
 use crate::privilege::{Access, Mode};
@@ -33,9 +35,20 @@ impl Model for Csrs {
 
     ghost Value = { CsrState };
 
-    ghost view = { λ c. record { mstatus_mie = c.mstatus_mie; mstatus_mpie = c.mstatus_mpie; mstatus_mpp = c.mstatus_mpp; mtvec = c.mtvec; mscratch = c.mscratch; mepc = c.mepc; mcause = c.mcause; mtval = c.mtval; pmp = c.pmp } };
+    ghost view = { λ c. record {
+      mstatus_mie = c.mstatus_mie;
+      mstatus_mpie = c.mstatus_mpie;
+      mstatus_mpp = c.mstatus_mpp;
+      mtvec = c.mtvec;
+      mscratch = c.mscratch;
+      mepc = c.mepc;
+      mcause = c.mcause;
+      mtval = c.mtval;
+      pmp = c.pmp;
+    } };
 
-    ghost invariant = { λ c. (c.mtvec % 4 ≡ 0) × (c.mepc % instruction_alignment ≡ 0) × IsEntry c.pmp.entry0 × IsEntry c.pmp.entry1 };
+    ghost invariant = { λ c.
+        (c.mtvec % 4 ≡ 0) × (c.mepc % instruction_alignment ≡ 0) × IsEntry c.pmp.entry0 × IsEntry c.pmp.entry1 };
 }
 
 impl Csrs {
@@ -124,6 +137,19 @@ impl Csrs {
         ensures { result ≡ is_allowed self.now at width access mode }
     {
         mode == Mode::Machine || self.pmp.allows(access, at, width)
+    }
+
+    /// The access, of user mode, stands whole in the user area, and the PMP leaves all of that open to accesses of its
+    /// kind.
+    #[inline(always)]
+    #[tactic(auto, unfolding(crate::specs::CsrTable::is_allowed))]
+    pub fn is_open(&self, at: u64, width: u64, access: Access) -> bool
+        requires some { 0 < width }
+        requires few { width ≤ 8 }
+        ensures value { result ≡ is_open self.now.pmp.entry0 self.now.pmp.entry1 access at width }
+        ensures allowed { IsTrue result → IsTrue (is_allowed self.now at width access mode_of.User) }
+    {
+        self.pmp.is_open(access, at, width)
     }
 
     fn value(&self, csr: Csr) -> u64

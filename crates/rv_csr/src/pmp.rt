@@ -1,12 +1,15 @@
 // The physical memory protection.
-ghost use Rattle.std.specs.Prelude.{◌≡◌, ◌<◌, ◌*◌, ◌%◌, ◌^◌};
+ghost use Rattle.std.specs.Prelude.{◌≡◌, ◌<◌, ◌≤◌, ◌*◌, ◌%◌, ◌^◌, IsTrue};
 ghost use Rattle.fe_base.specs.ByteRanges.{every_byte, some_byte, is_between};
+ghost use Rattle.fe_base.specs.MemoryMap.{user_start, user_end, is_within};
 ghost use Rattle.rv_csr.specs.Pmp as spec;
 ghost use Rattle.rv_csr.specs.Pmp.{no_entry, pmp_allows, IsEntry};
-ghost use Rattle.rv_csr.specs.Windows.{window_of};
+ghost use Rattle.rv_csr.specs.OpenArea as open_area;
+ghost use Rattle.rv_csr.specs.OpenArea.{is_open};
 
 use crate::privilege::Access;
 use crate::table::{bits, is_set};
+use fe_base::memory_map::{USER_END, USER_START};
 use std::marker::Model;
 
 /// A range of addresses with its rights.
@@ -133,51 +136,53 @@ impl PmpEntry {
     }
 }
 
-// The addresses at which user mode may make every access of one kind, of at most 8 bytes.
-#[derive(Clone, Copy)]
-struct Window {
-    first: u64,
-    count: u64,
+// A few bytes stand whole in the user area.
+#[inline(always)]
+#[tactic(auto, using(crate::proofs::PmpLemmas::open_lemmas))]
+fn stands_in_user_area(at: u64, width: u64) -> bool
+    requires { width ≤ 8 }
+    ensures { result ≡ is_within user_start user_end at width }
+{
+    // An address below the area wraps around to a difference beyond every offset in it.
+    at.wrapping_sub(USER_START) <= USER_END - USER_START - width
 }
 
-impl Window {
-    // Those of the second entry where it decides alone and has the right, else none.
-    fn of(entry0: PmpEntry, entry1: PmpEntry, access: Access) -> Window
-        ensures { result ≡ window_of entry0 entry1 access }
-    {
-        if !entry0.tor && entry1.tor && entry1.has_right(access) {
-            Window {
-                first: entry0.end,
-                count: entry1.end.saturating_sub(entry0.end).saturating_sub(7),
-            }
-        } else {
-            Window { first: 0, count: 0 }
-        }
-    }
+// Two entries let user mode make every access of a kind that stands whole in the user area.
+fn opens_user_area(entry0: PmpEntry, entry1: PmpEntry, access: Access) -> bool
+    ensures { result ≡ open_area.opens_user_area entry0 entry1 access }
+{
+    !entry0.tor
+        && entry1.tor
+        && entry1.has_right(access)
+        && entry0.end <= USER_START
+        && USER_END <= entry1.end
 }
 
-/// Two entries, seen as these. The addresses of most accesses are found when the entries are set, so that such an
-/// access costs one comparison.
+/// Two entries, seen as these. Whether they open the user area is found when they are set, so that most accesses of
+/// user mode cost one comparison.
 #[derive(Drop)]
 pub struct Pmp {
     entry0: PmpEntry,
     entry1: PmpEntry,
-    loads: Window,
-    stores: Window,
-    fetches: Window,
+    opens_loads: bool,
+    opens_stores: bool,
+    opens_fetches: bool,
 }
 
 impl Model for Pmp {
     ghost use Rattle.std.specs.Prelude.{◌≡◌};
     ghost use Rattle.rv_csr.specs.declared.privilege.Access.TheVariants as access;
     ghost use Rattle.rv_csr.specs.Pmp.{PmpState, IsEntry};
-    ghost use Rattle.rv_csr.specs.Windows.{window_of};
+    ghost use Rattle.rv_csr.specs.OpenArea.{opens_user_area};
 
     ghost Value = { PmpState };
 
     ghost view = { λ p. record { entry0 = p.entry0; entry1 = p.entry1 } };
 
-    ghost invariant = { λ p. IsEntry p.entry0 × IsEntry p.entry1 × (p.loads ≡ window_of p.entry0 p.entry1 access.Read) × (p.stores ≡ window_of p.entry0 p.entry1 access.Write) × (p.fetches ≡ window_of p.entry0 p.entry1 access.Execute) };
+    ghost invariant = { λ p. IsEntry p.entry0 × IsEntry p.entry1
+        × (p.opens_loads ≡ opens_user_area p.entry0 p.entry1 access.Read)
+        × (p.opens_stores ≡ opens_user_area p.entry0 p.entry1 access.Write)
+        × (p.opens_fetches ≡ opens_user_area p.entry0 p.entry1 access.Execute) };
 }
 
 impl Pmp {
@@ -190,9 +195,9 @@ impl Pmp {
         Pmp {
             entry0,
             entry1,
-            loads: Window::of(entry0, entry1, Access::Read),
-            stores: Window::of(entry0, entry1, Access::Write),
-            fetches: Window::of(entry0, entry1, Access::Execute),
+            opens_loads: opens_user_area(entry0, entry1, Access::Read),
+            opens_stores: opens_user_area(entry0, entry1, Access::Write),
+            opens_fetches: opens_user_area(entry0, entry1, Access::Execute),
         }
     }
 
@@ -212,26 +217,33 @@ impl Pmp {
         self.entry1
     }
 
-    /// User mode may make the access.
+    /// The access stands whole in the user area, and user mode may make every access of its kind that does.
     #[inline(always)]
-    #[tactic(auto, using(crate::proofs::PmpLemmas::decisions))]
-    pub fn allows(&self, access: Access, at: u64, width: u64) -> bool
-        ensures { result ≡ pmp_allows self.now access at width }
+    #[tactic(auto, using(crate::proofs::PmpLemmas::open_lemmas))]
+    pub fn is_open(&self, access: Access, at: u64, width: u64) -> bool
+        requires some { 0 < width }
+        requires few { width ≤ 8 }
+        ensures value { result ≡ is_open self.now.entry0 self.now.entry1 access at width }
+        ensures allowed { IsTrue result → IsTrue (pmp_allows self.now access at width) }
     {
-        let window = match access {
-            Access::Read => self.loads,
-            Access::Write => self.stores,
-            Access::Execute => self.fetches,
-        };
-        if width > 0 && width <= 8 && at.wrapping_sub(window.first) < window.count {
-            return true;
-        }
-        self.decides(access, at, width)
+        stands_in_user_area(at, width) && self.opens_user_area(access)
     }
 
-    // What the first entry decides that matches any byte of the access.
+    #[inline(always)]
+    fn opens_user_area(&self, access: Access) -> bool
+        ensures value { result ≡ open_area.opens_user_area self.now.entry0 self.now.entry1 access }
+        ensures range { IsEntry self.now.entry1 }
+    {
+        match access {
+            Access::Read => self.opens_loads,
+            Access::Write => self.opens_stores,
+            Access::Execute => self.opens_fetches,
+        }
+    }
+
+    /// User mode may make the access: what the first entry decides that matches any byte of it.
     #[cold]
-    fn decides(&self, access: Access, at: u64, width: u64) -> bool
+    pub fn allows(&self, access: Access, at: u64, width: u64) -> bool
         ensures { result ≡ pmp_allows self.now access at width }
     {
         match self.entry0.decision(0, access, at, width) {

@@ -3,7 +3,15 @@ use Rattle.std.specs.Prelude.{◌≡◌, ℕ, ℤ, ◌<◌, ◌-◌, ◌%◌, �
 use Rattle.std.proofs.Common.{negsuc}
 use Rattle.rv_decode.specs.Fields.{opcode, funct3}
 use Rattle.rv_decode.specs.declared.instruction.Insn.{Insn}
-use Rattle.rv_decode.specs.declared.instruction.Insn.TheVariants.{Lui, Auipc, Jal, Jalr, Beq, Bne, Blt, Bge, Bltu, Bgeu, Lb, Lh, Lw, Ld, Lbu, Lhu, Lwu, Sb, Sh, Sw, Sd, Addi, Slti, Sltiu, Xori, Ori, Andi, Slli, Srli, Srai, Addiw, Slliw, Srliw, Sraiw, Add, Sll, Slt, Sltu, Xor, Srl, Or, And, Sub, Sra, Mul, Mulh, Mulhsu, Mulhu, Div, Divu, Rem, Remu, Addw, Sllw, Srlw, Subw, Sraw, Mulw, Divw, Divuw, Remw, Remuw, Fence, FenceI, Ecall, Ebreak, Mret, Wfi, Csrrw, Csrrs, Csrrc, Csrrwi, Csrrsi, Csrrci}
+use Rattle.rv_decode.specs.declared.instruction.Insn.TheVariants.{Lui, Auipc, Jal, Jalr, Beq, Bne, Blt, Bge, Bltu}
+use Rattle.rv_decode.specs.declared.instruction.Insn.TheVariants.{Bgeu, Lb, Lh, Lw, Ld, Lbu, Lhu, Lwu, Sb, Sh, Sw, Sd}
+use Rattle.rv_decode.specs.declared.instruction.Insn.TheVariants.{Addi, Slti, Sltiu, Xori, Ori, Andi, Slli, Srli}
+use Rattle.rv_decode.specs.declared.instruction.Insn.TheVariants.{Srai, Addiw, Slliw, Srliw, Sraiw, Add, Sll, Slt}
+use Rattle.rv_decode.specs.declared.instruction.Insn.TheVariants.{Sltu, Xor, Srl, Or, And, Sub, Sra, Mul, Mulh}
+use Rattle.rv_decode.specs.declared.instruction.Insn.TheVariants.{Mulhsu, Mulhu, Div, Divu, Rem, Remu, Addw, Sllw}
+use Rattle.rv_decode.specs.declared.instruction.Insn.TheVariants.{Srlw, Subw, Sraw, Mulw, Divw, Divuw, Remw, Remuw}
+use Rattle.rv_decode.specs.declared.instruction.Insn.TheVariants.{Fence, FenceI, Ecall, Ebreak, Mret, Wfi, Csrrw}
+use Rattle.rv_decode.specs.declared.instruction.Insn.TheVariants.{Csrrs, Csrrc, Csrrwi, Csrrsi, Csrrci}
 
 -- z is a two's complement number of `count` bits: -2^(count-1) ≤ z < 2^(count-1), where negsuc n is -(n + 1)
 abbrev pub FitsSignedBits : ℕ → ℤ → Type 0

@@ -1,8 +1,17 @@
 -- The instruction table of RV64IM with Zicsr, Zifencei, MRET and WFI: which words stand for which instruction.
 use Rattle.std.specs.Prelude.{◌≡◌, ℕ, Option, Some, None, if◌then◌else◌, ◌==◌}
-use Rattle.rv_decode.specs.Fields.{opcode, funct3, funct6, funct7, rd_at, rs1_at, rs2_at, amount_at, csr_at, upper_at, i_at, s_at, b_at, j_at, IsU, IsJ, IsI, IsS, IsB, IsR, IsShift, IsFence, IsCsr}
+use Rattle.rv_decode.specs.Fields.{opcode, funct3, funct6, funct7, rd_at, rs1_at, rs2_at, amount_at, csr_at, upper_at}
+use Rattle.rv_decode.specs.Fields.{i_at, s_at, b_at, j_at, IsU, IsJ, IsI, IsS, IsB, IsR, IsShift, IsFence, IsCsr}
 use Rattle.rv_decode.specs.declared.instruction.Insn.{Insn}
-use Rattle.rv_decode.specs.declared.instruction.Insn.TheVariants.{Lui, Auipc, Jal, Jalr, Beq, Bne, Blt, Bge, Bltu, Bgeu, Lb, Lh, Lw, Ld, Lbu, Lhu, Lwu, Sb, Sh, Sw, Sd, Addi, Slti, Sltiu, Xori, Ori, Andi, Slli, Srli, Srai, Addiw, Slliw, Srliw, Sraiw, Add, Sll, Slt, Sltu, Xor, Srl, Or, And, Sub, Sra, Mul, Mulh, Mulhsu, Mulhu, Div, Divu, Rem, Remu, Addw, Sllw, Srlw, Subw, Sraw, Mulw, Divw, Divuw, Remw, Remuw, Fence, FenceI, Ecall, Ebreak, Mret, Wfi, Csrrw, Csrrs, Csrrc, Csrrwi, Csrrsi, Csrrci}
+use Rattle.rv_decode.specs.declared.instruction.Insn.TheVariants.{Lui, Auipc, Jal, Jalr, Beq, Bne, Blt, Bge, Bltu}
+use Rattle.rv_decode.specs.declared.instruction.Insn.TheVariants.{Bgeu, Lb, Lh, Lw, Ld, Lbu, Lhu, Lwu, Sb, Sh, Sw, Sd}
+use Rattle.rv_decode.specs.declared.instruction.Insn.TheVariants.{Addi, Slti, Sltiu, Xori, Ori, Andi, Slli, Srli}
+use Rattle.rv_decode.specs.declared.instruction.Insn.TheVariants.{Srai, Addiw, Slliw, Srliw, Sraiw, Add, Sll, Slt}
+use Rattle.rv_decode.specs.declared.instruction.Insn.TheVariants.{Sltu, Xor, Srl, Or, And, Sub, Sra, Mul, Mulh}
+use Rattle.rv_decode.specs.declared.instruction.Insn.TheVariants.{Mulhsu, Mulhu, Div, Divu, Rem, Remu, Addw, Sllw}
+use Rattle.rv_decode.specs.declared.instruction.Insn.TheVariants.{Srlw, Subw, Sraw, Mulw, Divw, Divuw, Remw, Remuw}
+use Rattle.rv_decode.specs.declared.instruction.Insn.TheVariants.{Fence, FenceI, Ecall, Ebreak, Mret, Wfi, Csrrw}
+use Rattle.rv_decode.specs.declared.instruction.Insn.TheVariants.{Csrrs, Csrrc, Csrrwi, Csrrsi, Csrrci}
 
 -- the word stands for the instruction: its format and the values of its fixed fields (Unprivileged ISA, RV32/64G
 -- Instruction Set Listings; MRET and WFI: Privileged Architecture, RISC-V Privileged Instruction Set Listings)

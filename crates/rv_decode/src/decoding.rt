@@ -3,7 +3,10 @@
 ghost use Rattle.std.specs.Prelude.{◌≡◌, ◌↔◌, Some, IfSome};
 ghost use Rattle.rv_decode.specs.declared.instruction.Insn.{Insn};
 ghost use Rattle.rv_decode.specs.Fits.{IsFit};
-ghost use Rattle.rv_decode.specs.InsnTable.{insn_of, branch_of, load_of, store_of, op_imm_of, op_imm_32_of, op_of, op_base_of, op_alternate_of, op_muldiv_of, op_32_of, op_32_base_of, op_32_alternate_of, op_32_muldiv_of, misc_mem_of, system_of, jalr_of, Row};
+ghost use Rattle.rv_decode.specs.InsnTable.{insn_of, branch_of, load_of, store_of, op_imm_of, op_imm_32_of, op_of};
+ghost use Rattle.rv_decode.specs.InsnTable.{op_base_of, op_alternate_of, op_muldiv_of, op_32_of, op_32_base_of};
+ghost use Rattle.rv_decode.specs.InsnTable.{op_32_alternate_of, op_32_muldiv_of, misc_mem_of, system_of, jalr_of};
+ghost use Rattle.rv_decode.specs.InsnTable.{Row};
 
 use crate::instruction::Insn;
 use crate::opcodes::{self, EBREAK_WORD, ECALL_WORD, MRET_WORD, WFI_WORD};

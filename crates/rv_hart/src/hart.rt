@@ -5,7 +5,8 @@ ghost use Rattle.guest_memory.specs.Memory.{zeros};
 ghost use Rattle.rv_alu.specs.Effects as effect_spec;
 ghost use Rattle.rv_alu.specs.Effects.{IsInRange};
 ghost use Rattle.rv_hart.specs.HartStep as spec;
-ghost use Rattle.rv_hart.specs.HartStep.{IsHart, IsUnhalted, reset_hart, trap_step, after_mret, next_hart, privileged, csr_step, effect_step, instruction_step, over, hart_step};
+ghost use Rattle.rv_hart.specs.HartStep.{IsHart, IsUnhalted, reset_hart, trap_step, after_mret, next_hart};
+ghost use Rattle.rv_hart.specs.HartStep.{privileged, csr_step, effect_step, instruction_step, over, hart_step};
 ghost use Rattle.rv_hart.specs.LinedStep.{AreQuiet, lined_step};
 ghost use Rattle.rv_hart.specs.Walks.{step_of, Stays, BusStays, Walked, Settled, counted_by, hart_after};
 
@@ -41,7 +42,14 @@ impl Model for Hart {
 
     ghost Value = { HartState };
 
-    ghost view = { λ h. record { mode = h.mode; pc = h.pc; registers = h.registers; csrs = h.csrs; run = h.run; user_steps = h.user_steps } };
+    ghost view = { λ h. record {
+      mode = h.mode;
+      pc = h.pc;
+      registers = h.registers;
+      csrs = h.csrs;
+      run = h.run;
+      user_steps = h.user_steps;
+    } };
 
     ghost invariant = { λ h. AreRegisters h.registers × IsCsrs h.csrs };
 }
@@ -157,7 +165,8 @@ impl Hart {
     #[inline(never)]
     #[tactic(auto, unfolding(crate::specs::HartStep::after_mret))]
     fn return_from_trap(&mut self, bits: u32) -> Outcome
-        ensures step { (bus : BusState) → privileged self.old.mode bits (next_hart bus (after_mret self.old)) ≡ step_of result (over bus self.new) }
+        ensures step { (bus : BusState)
+            → privileged self.old.mode bits (next_hart bus (after_mret self.old)) ≡ step_of result (over bus self.new) }
         ensures stays { Stays result self.old self.new }
         ensures run { self.new.run ≡ self.old.run }
         ensures count { self.new.user_steps ≡ self.old.user_steps }
@@ -178,7 +187,8 @@ impl Hart {
     #[tactic(auto, using(crate::proofs::RegisterLemmas::registers), unfolding(crate::specs::HartStep::csr_step))]
     fn access_csr(&mut self, access: CsrAccess, bits: u32, after: u64) -> Outcome
         requires { access.rd < 32 }
-        ensures step { (bus : BusState) → csr_step access bits after (over bus self.old) ≡ step_of result (over bus self.new) }
+        ensures step { (bus : BusState)
+            → csr_step access bits after (over bus self.old) ≡ step_of result (over bus self.new) }
         ensures stays { Stays result self.old self.new }
         ensures run { self.new.run ≡ self.old.run }
         ensures count { self.new.user_steps ≡ self.old.user_steps }
@@ -196,10 +206,18 @@ impl Hart {
         Outcome::Ruled
     }
 
-    // An effect of an instruction of these bits in this mode, with the next one at `after`.
+    // An effect of an instruction of these bits in this mode, with the next one at `after`. Each walk `W` has an
+    // instance of its own.
     #[inline(always)]
     #[tactic(auto, using(crate::proofs::RegisterLemmas::registers), unfolding(crate::specs::HartStep::effect_step))]
-    fn carry(&mut self, bus: &mut Bus, mode: Mode, effect: Effect, bits: u32, after: u64) -> Outcome
+    fn carry<W>(
+        &mut self,
+        bus: &mut Bus,
+        mode: Mode,
+        effect: Effect,
+        bits: u32,
+        after: u64,
+    ) -> Outcome
         requires range { IsInRange effect }
         requires mode { self.old.mode ≡ mode }
         ensures step { effect_step effect bits after (over bus.old self.old) ≡ step_of result (over bus.new self.new) }
@@ -292,7 +310,7 @@ impl Hart {
         };
         let effect = act::<W>(insn, self.pc, &self.registers);
         let after = self.pc.wrapping_add(4);
-        self.carry(bus, mode, effect, word, after)
+        self.carry::<W>(bus, mode, effect, word, after)
     }
 
     // Instructions in this mode as long as each moves on, at most so many: how many did, and what came next, or Moved
@@ -460,7 +478,8 @@ impl Hart {
     #[tactic(auto, using(crate::proofs::LinedLaws::lined_step_quiet))]
     pub fn step(&mut self, bus: &mut Bus, lines: &mut DebugLines)
         requires { AreQuiet lines.old }
-        ensures step { record { system = over bus.new self.new; lines = lines.new } ≡ lined_step (record { system = over bus.old self.old; lines = lines.old }) }
+        ensures step { record { system = over bus.new self.new; lines = lines.new }
+            ≡ lined_step (record { system = over bus.old self.old; lines = lines.old }) }
         ensures quiet { over bus.new self.new ≡ hart_step (over bus.old self.old) }
         ensures lines_stay { lines.new ≡ lines.old }
         ensures unhalted { IsUnhalted self.old.run → IsUnhalted self.new.run }
