@@ -3,12 +3,12 @@ use Rattle.std.proofs.Common.{◌≡◌, ℕ, ℤ, ◌+◌, ◌-◌, ◌*◌, �
 use Rattle.std.proofs.Common.{Bool, true, false, Result, Ok, Err, refl, ap, ◌∙◌, subst, arith, length-append}
 use Rattle.std.specs.Prelude.{◌==◌, ⊤, if◌then◌else◌}
 use Rattle.std.proofs.lemmas.List.{length-replicate}
-use Rattle.std.specs.Int.{w32, w64, to_le_bytes}
+use Rattle.std.specs.Int.{w32, to_le_bytes}
 use Rattle.asm_items.specs.declared.item.Item.{Item}
 use Rattle.asm_items.specs.declared.item.Item.TheVariants.{Plain, Branch, Jump, Address, Label, Dword, Ascii}
 use Rattle.asm_items.specs.declared.fault.AsmFault.{AsmFault}
 use Rattle.asm_items.specs.declared.fault.AsmFault.TheVariants.{LabelTwice}
-use Rattle.asm_items.specs.ItemMeaning.{Part, Code, Data, Spells, HoldsParts, address_parts, after, and_then, assembled}
+use Rattle.asm_items.specs.ItemMeaning.{Part, Code, Data, Spells, HoldsParts, after, and_then, assembled}
 use Rattle.asm_items.specs.ItemMeaning.{filled, first_only, labels_of, parts_from, parts_of, total_words, with_offset}
 use Rattle.asm_items.specs.ItemMeaning.{words_of}
 

@@ -1,7 +1,7 @@
 -- A file with no fault has none in any row, so its image may be run.
 use Rattle.std.proofs.Common.{◌≡◌, ◌∙◌, ◌≤◌, ℕ, zero, suc, ◌+◌, Bool, true, false, ◌&&◌, ◌||◌, List, [], ◌∷◌, ◌++◌}
 use Rattle.std.proofs.Common.{length, drop, Option, Some, None, map, filter, refl, ap, sym, subst, arith, length-take}
-use Rattle.std.specs.Prelude.{All, AllPairs, not, ◌==◌, option_map}
+use Rattle.std.specs.Prelude.{All, AllPairs, not, option_map}
 use Rattle.std.specs.Option.{option_or}
 use Rattle.std.specs.List.{list_any, position_from}
 use Rattle.std.proofs.lemmas.Bool.Decides.{nat_tests}

@@ -4,7 +4,7 @@ use Rattle.std.specs.Prelude.{All}
 use Rattle.std.proofs.lemmas.Bool.Decides.{nat_tests}
 use Rattle.fe_base.specs.Limits.{stack_top}
 use Rattle.fe_base.specs.MemoryMap.{user_start}
-use Rattle.elf_loader.specs.Rules.{is_inside, lies_in, user_rules}
+use Rattle.elf_loader.specs.Rules.{is_inside, user_rules}
 use Rattle.elf_loader.specs.Segment.{Segment, end_of, greatest_end}
 use Rattle.elf_loader.specs.ElfFile.{IsFitSegment}
 

@@ -4,7 +4,6 @@ use Rattle.std.specs.Prelude.{None, IsSome, is_some}
 use Rattle.std.proofs.Common.{ap, sym, ◌∙◌, refl, subst, inl, inr, ◌⊎◌}
 use Rattle.std.specs.FinMap as map
 use Rattle.std.specs.FinMap.{get-remove, contains_key-keys}
-use Rattle.std.specs.List.{list_any}
 use Rattle.std.specs.Cmp.{eq_by_cmp_equiv}
 use Rattle.std.specs.Cmp.Lexicographic.{slice_cmp, lists_total, nat_list_cmp_total}
 use Rattle.std.specs.Ordering.{nat_cmp, eq_by_cmp}
@@ -12,7 +11,7 @@ use Rattle.std.proofs.lemmas.Bool.{cases_Bool}
 use Rattle.folder_tree.specs.Paths.{Parts, parts_cmp}
 use Rattle.folder_tree.specs.Tree.{Entry, directory, stored, Tree, Found, entry, nothing, no_parent, under_file}
 use Rattle.folder_tree.specs.Tree.{found_from, found_at, kind_found, kind_of, IsHeld, IsWellFormed}
-use Rattle.folder_tree.specs.TreeOps.{After, emptied, is_below, is_directory, is_filled, remove_dir_row, without}
+use Rattle.folder_tree.specs.TreeOps.{After, is_below, is_directory, is_filled, remove_dir_row, without}
 use Rattle.folder_tree.specs.Laws.{Keeps, same_path, any_at, is_some_of}
 use Rattle.folder_tree.specs.RowLaws.{if_some, tree_of}
 use Rattle.folder_tree.specs.RemoveLaws.{append_nil, append_more, name-before, name-after, some_value}

@@ -1,7 +1,7 @@
 -- To remove the name of a file keeps a tree well formed.
-use Rattle.std.specs.Prelude.{◌≡◌, ◌<◌, ◌≤◌, ℕ, ◌+◌, Bool, true, false, cond, not, ◌&&◌, ◌==◌, if◌then◌else◌, List, []}
-use Rattle.std.specs.Prelude.{◌∷◌, ◌++◌, length, Option, Some, None, IsSome, is_some, unwrap_or}
-use Rattle.std.proofs.Common.{ap, sym, ◌∙◌, refl, subst, arith, inl, inr, ◌⊎◌}
+use Rattle.std.specs.Prelude.{◌≡◌, ℕ, Bool, true, false, cond, not, ◌&&◌, ◌==◌, if◌then◌else◌, List, []}
+use Rattle.std.specs.Prelude.{◌∷◌, ◌++◌, Option, Some, None, IsSome, is_some, unwrap_or}
+use Rattle.std.proofs.Common.{ap, sym, ◌∙◌, refl, subst, inl, inr}
 use Rattle.std.specs.FinMap as map
 use Rattle.std.specs.FinMap.{get-remove}
 use Rattle.std.specs.Cmp.{nat_cmp_total, eq_by_cmp_equiv}
@@ -11,7 +11,7 @@ use Rattle.std.proofs.lemmas.Bool.{cases_Bool, both_ways, eqb-true, eqb-false}
 use Rattle.folder_tree.specs.Paths.{Parts, parts_cmp}
 use Rattle.folder_tree.specs.Tree.{Entry, directory, stored, Tree, Found, entry, nothing, no_parent, under_file}
 use Rattle.folder_tree.specs.Tree.{found_from, found_at, number_found, number_at, opens_of, IsHeld, IsWellFormed}
-use Rattle.folder_tree.specs.TreeOps.{After, dropped, is_named, remove_row, unnamed, without}
+use Rattle.folder_tree.specs.TreeOps.{dropped, is_named, remove_row, unnamed, without}
 use Rattle.folder_tree.specs.Laws.{Keeps, same_number, same_path, found_at-names, is_named-name, name-is_named}
 use Rattle.folder_tree.specs.Laws.{get-kept_by, some_kept, some_before, was_kept, gone_parts}
 use Rattle.folder_tree.specs.RowLaws.{dirs-stay, tree_of}

@@ -1,10 +1,10 @@
 -- The rows that change a tree keep it well formed.
-use Rattle.std.specs.Prelude.{◌≡◌, ◌<◌, ◌≤◌, ℕ, suc, ◌+◌, ◌-◌, ◌^◌, min, Bool, true, false, cond, not, ◌&&◌, ◌==◌}
+use Rattle.std.specs.Prelude.{◌≡◌, ◌<◌, ℕ, ◌+◌, ◌-◌, ◌^◌, Bool, true, false, cond, ◌&&◌}
 use Rattle.std.specs.Prelude.{nat_lt, if◌then◌else◌, List, [], ◌∷◌, ◌++◌, length, take, drop, replicate, Option, Some}
 use Rattle.std.specs.Prelude.{None, IsSome, is_some, unwrap_or}
-use Rattle.std.proofs.Common.{ap, sym, ◌∙◌, refl, subst, arith, inl, inr, ◌⊎◌, length-take, length-drop, length-append}
+use Rattle.std.proofs.Common.{ap, sym, ◌∙◌, refl, subst, arith, inl, inr, length-take, length-drop, length-append}
 use Rattle.std.specs.FinMap as map
-use Rattle.std.specs.FinMap.{get-insert, get-remove}
+use Rattle.std.specs.FinMap.{get-insert}
 use Rattle.std.specs.Cmp.{nat_cmp_total, eq_by_cmp_equiv}
 use Rattle.std.specs.Cmp.Lexicographic.{lists_total, nat_list_cmp_total}
 use Rattle.std.specs.Ordering.{nat_cmp, eq_by_cmp}
@@ -15,9 +15,8 @@ use Rattle.folder_tree.specs.Tree.{Entry, directory, stored, Tree, Found, entry,
 use Rattle.folder_tree.specs.Tree.{found_from, found_at, kind_found, kind_of, opens_of, bytes_of, HasParents, IsHeld}
 use Rattle.folder_tree.specs.Tree.{IsWellFormed}
 use Rattle.folder_tree.specs.TreeOps.{After, holding, is_free, sized, written, is_writable, write_row, set_size_row}
-use Rattle.folder_tree.specs.TreeOps.{if_open, named, with_file, created, create_row, make_dir_row, opened, least_free}
+use Rattle.folder_tree.specs.TreeOps.{named, with_file, created, create_row, make_dir_row, least_free}
 use Rattle.folder_tree.specs.Laws.{Keeps, same_number, same_path, found_at-names, opened-IsWellFormed}
-use Rattle.folder_tree.specs.FreeNumbers.{IsFreeNumber, least_free-IsFreeNumber}
 use Rattle.folder_tree.specs.declared.folder.PathKind.{PathKind}
 use Rattle.folder_tree.specs.declared.folder.PathKind.TheVariants.{Directory, File, Free, NoParent, UnderFile}
 

@@ -1,7 +1,6 @@
-use Rattle.std.proofs.Common.{◌≡◌, ap, sym, ◌∙◌, true, false}
+use Rattle.std.proofs.Common.{ap, sym, ◌∙◌}
 use Rattle.std.specs.Prelude.{is_ok}
-use Rattle.std.specs.Str.{is_utf8}
-use Rattle.folder_tree.proofs.PathLemmas.{no_text, nul_text, some_text, utf8_test}
+use Rattle.folder_tree.proofs.PathLemmas.{no_text, some_text, utf8_test}
 use Rattle.folder_tree.proofs.path.text_of.Goals as goal
 
 pub returns-in_default : goal.returns-in_default
