@@ -1,6 +1,8 @@
 -- The debug module as a wire tells it (External Debug Support 0.13.2; where that version leaves a choice, it is this
 -- project's): its registers, what an access of it does, and what it makes of a hart's steps.
-use Rattle.std.specs.Prelude.{◌≡◌, ◌≤◌, ◌<◌, ℕ, zero, suc, ◌+◌, ◌-◌, ◌*◌, ◌/◌, ◌%◌, ◌^◌, ◌==◌, ◌&&◌, ◌||◌, Bool, true, false, not, nat_le, nat_lt, if◌then◌else◌, List, [], ◌∷◌, length, slice_index, slice_set, bit_and, ⊤, Result, Ok, Err}
+use Rattle.std.specs.Prelude.{◌≡◌, ◌≤◌, ◌<◌, ℕ, zero, suc, ◌+◌, ◌-◌, ◌*◌, ◌/◌, ◌%◌, ◌^◌, ◌==◌, ◌&&◌, ◌||◌, Bool, true}
+use Rattle.std.specs.Prelude.{false, not, nat_le, nat_lt, if◌then◌else◌, List, [], ◌∷◌, length, slice_index, slice_set}
+use Rattle.std.specs.Prelude.{bit_and, ⊤, Result, Ok, Err}
 use Rattle.fe_base.specs.Access.{Access, Loaded, Stored}
 use Rattle.fe_base.specs.MemoryMap.{is_beat}
 use Rattle.fe_base.specs.Outside.{Rose}
@@ -28,7 +30,16 @@ pub record ModuleState : Type 0 where
 
 -- the module at reset
 abbrev pub reset_module : ModuleState
-reset_module = record { active = false; haltreq = false; resume = false; acked = false; job = NoJob; value = 0; buffer = 0 ∷ 0 ∷ 0 ∷ 0 ∷ []; cmderr = 0 }
+reset_module = record {
+  active = false;
+  haltreq = false;
+  resume = false;
+  acked = false;
+  job = NoJob;
+  value = 0;
+  buffer = 0 ∷ 0 ∷ 0 ∷ 0 ∷ [];
+  cmderr = 0;
+}
 
 -- each field fits its register, and a module that is not active is as at reset
 pub record IsModule (m : ModuleState) : Type 0 where
@@ -102,7 +113,8 @@ failed_by error m = if m.cmderr == 0 then record m { cmderr = error } else m
 abbrev pub is_unsupported : ℕ → Bool
 is_unsupported command =
     (not (command / 2 ^ 24 == 0) || bit 19 command)
-    || (bit 17 command && (not (command / 2 ^ 20 % 8 == 3) || not (nat_le 0x1000 (command % 2 ^ 16) && nat_le (command % 2 ^ 16) 0x101f)))
+    || (bit 17 command
+    && (not (command / 2 ^ 20 % 8 == 3) || not (nat_le 0x1000 (command % 2 ^ 16) && nat_le (command % 2 ^ 16) 0x101f)))
 
 -- the job of a command
 abbrev pub job_of : ℕ → DebugJob
@@ -131,7 +143,8 @@ abbrev pub wrote : ModuleState → Bool → ℕ → ℕ → ModuleState
 wrote m halted address word =
     if address == 0x10 then controlled m halted word
     else (if address == 0x17 then commanded m halted word
-    else (if address == 0x16 then (if is_busy m.job then failed_by 1 m else record m { cmderr = bit_and m.cmderr (7 - word / 2 ^ 8 % 8) })
+    else (if address == 0x16
+    then (if is_busy m.job then failed_by 1 m else record m { cmderr = bit_and m.cmderr (7 - word / 2 ^ 8 % 8) })
     else (if is_storage address then (if is_busy m.job then failed_by 1 m else with_storage m address word) else m)))
 
 -- a write; while the module is not active, it can only be made active
@@ -191,7 +204,8 @@ first_step word registers =
     if word % 128 == 0x03 && word / 2 ^ 12 % 8 == 3
     then BufferLoad (word / 2 ^ 7 % 32) (at_offset (slice_index registers (word / 2 ^ 15 % 32)) (word / 2 ^ 20))
     else (if word % 128 == 0x23 && word / 2 ^ 12 % 8 == 3
-    then BufferStore (at_offset (slice_index registers (word / 2 ^ 15 % 32)) (word / 2 ^ 25 * 32 + word / 2 ^ 7 % 32)) (slice_index registers (word / 2 ^ 20 % 32))
+    then BufferStore (at_offset (slice_index registers (word / 2 ^ 15 % 32)) (word / 2 ^ 25 * 32 + word / 2 ^ 7 % 32))
+    (slice_index registers (word / 2 ^ 20 % 32))
     else OtherStep)
 
 -- the second word of the buffer is EBREAK
@@ -220,12 +234,14 @@ module _ {V R : Type 0} (ran : V → ℕ → V → Type 0) (touched : V → Acce
   BufferDone (BufferStore at value) m registers rest m' side' =
       (rest' : R) × TouchedHalted rest (Stored at value) rest' × (m' ≡ m) × (side' ≡ Stopped registers rest')
   BufferDone OtherStep m registers rest m' side' =
-      (error : ℕ) × (registers' : List ℕ) × (rest' : R) × (m' ≡ record m { cmderr = error }) × (side' ≡ Stopped registers' rest')
+      (error : ℕ) × (registers' : List ℕ) × (rest' : R) × (m' ≡ record m { cmderr = error })
+      × (side' ≡ Stopped registers' rest')
 
   -- the buffer was run, or not
   abbrev pub BufferRun : Bool → ModuleState → List ℕ → R → ModuleState → HartSide V R → Type 0
   BufferRun true m registers rest m' side' =
-      BufferDone (known_step (first_step (slice_index m.buffer 0) registers) (is_single m.buffer)) m registers rest m' side'
+      BufferDone (known_step (first_step (slice_index m.buffer 0) registers) (is_single m.buffer))
+      m registers rest m' side'
   BufferRun false m registers rest m' side' = (m' ≡ m) × (side' ≡ Stopped registers rest)
 
   -- a whole job was done in one step: the transfer first, and then the buffer
@@ -246,7 +262,8 @@ module _ {V R : Type 0} (ran : V → ℕ → V → Type 0) (touched : V → Acce
   -- one step of a hart that is not halted: it halts where that is asked, so that resuming gives its view, or makes a
   -- step
   abbrev pub FreeStep : Bool → ModuleState → V → ModuleState → HartSide V R → Type 0
-  FreeStep true m v m' side' = (registers : List ℕ) × (rest : R) × (m' ≡ m) × (side' ≡ Stopped registers rest) × (resumed registers rest ≡ v)
+  FreeStep true m v m' side' = (registers : List ℕ) × (rest : R) × (m' ≡ m) × (side' ≡ Stopped registers rest)
+      × (resumed registers rest ≡ v)
   FreeStep false m v m' side' = (w : V) × (m' ≡ m) × (side' ≡ Free w) × ran v 1 w
 
   -- one hart step under the module's lines
@@ -262,7 +279,8 @@ module _ {V R : Type 0} (ran : V → ℕ → V → Type 0) (touched : V → Acce
 
   -- a turn of a module access: some hart steps, at least one where every pause is positive, and then the access, which
   -- leaves the hart as it was behind the steps
-  pub record DmiTurned {S : Type 0} (valid positive : S → Type 0) (module_of : S → ModuleState) (side : S → HartSide V R)
+  pub record DmiTurned {S : Type 0} (valid positive : S → Type 0) (module_of : S → ModuleState)
+      (side : S → HartSide V R)
       (before : S) (ask : DmiAsk) (reply : ℕ) (after : S) : Type 0 where
     pub steps : ℕ
     pub between : ModuleState
@@ -276,9 +294,11 @@ module _ {V R : Type 0} (ran : V → ℕ → V → Type 0) (touched : V → Acce
     pub still_positive : positive before → positive after
 
   -- what a wire's `next` and `lost` owe: each is a turn of what was asked
-  abbrev pub DmiLaw : {S : Type 0} → (S → Type 0) → (S → Type 0) → (S → ModuleState) → (S → HartSide V R) → (S → DmiAsk → S × ℕ) → Type 0
+  abbrev pub DmiLaw : {S : Type 0} → (S → Type 0) → (S → Type 0) → (S → ModuleState) → (S → HartSide V R)
+      → (S → DmiAsk → S × ℕ) → Type 0
   DmiLaw {S} valid positive module_of side act =
-      (s : S) (ask : DmiAsk) → valid s → ask.value < 2 ^ 32 → DmiTurned valid positive module_of side s ask (act s ask).1 (act s ask).0
+      (s : S) (ask : DmiAsk) → valid s → ask.value < 2 ^ 32
+      → DmiTurned valid positive module_of side s ask (act s ask).1 (act s ask).0
 
 -- ---- command errors
 -- a read of abstractcs, whose answer has this command error
@@ -293,5 +313,6 @@ RaisesIf true before now = (before ≤ now) × Rose before now
 RaisesIf false before now = now ≡ before
 
 abbrev pub Raises : {E : Type 0} → DmiOp → ℕ → (ℕ → ℕ) → (ℕ → ℕ) → Result ℕ E → Type 0
-Raises op address before now (Ok reply) = (error : ℕ) → RaisesIf (reads_error op address reply error) (before error) (now error)
+Raises op address before now (Ok reply) = (error : ℕ)
+    → RaisesIf (reads_error op address reply error) (before error) (now error)
 Raises op address before now (Err stop) = (error : ℕ) → now error ≡ before error

@@ -1,7 +1,11 @@
 -- The limits of the product under names that clauses and definitions of any crate can cite. Each is its constant's
 -- number.
 use Rattle.std.specs.Prelude.{ℕ}
-use Rattle.fe_base.specs.declared.limits.TheConstants.{ELF_FILE_LIMIT, ASSEMBLY_FILE_LIMIT, MAIN_VARS_LIMIT, TRANSFER_LIMIT, OPEN_NUMBERS, GUEST_PATH_LIMIT, PATH_TEXT_LIMIT, PATH_LIMIT, PATH_PART_LIMIT, GUEST_FILE_LIMIT, GREATEST_BREAK, STACK_TOP, PAUSE_LIMIT, DEFAULT_STEP_LIMIT, GREATEST_STEP_LIMIT, REPORT_LINE_LIMIT}
+use Rattle.fe_base.specs.declared.limits.TheConstants.{ELF_FILE_LIMIT, ASSEMBLY_FILE_LIMIT, MAIN_VARS_LIMIT}
+use Rattle.fe_base.specs.declared.limits.TheConstants.{TRANSFER_LIMIT, OPEN_NUMBERS, GUEST_PATH_LIMIT, PATH_TEXT_LIMIT}
+use Rattle.fe_base.specs.declared.limits.TheConstants.{PATH_LIMIT, PATH_PART_LIMIT, GUEST_FILE_LIMIT, GREATEST_BREAK}
+use Rattle.fe_base.specs.declared.limits.TheConstants.{STACK_TOP, PAUSE_LIMIT, DEFAULT_STEP_LIMIT, GREATEST_STEP_LIMIT}
+use Rattle.fe_base.specs.declared.limits.TheConstants.{REPORT_LINE_LIMIT}
 
 -- the most bytes of a program file
 abbrev pub elf_file_limit : ℕ

@@ -2,7 +2,8 @@
 use Rattle.std.proofs.Common.{◌≡◌, ℕ, ◌+◌, ◌-◌, ◌%◌, ◌<◌, ◌^◌, Option, Some, None, refl, arith}
 use Rattle.fe_base.specs.Access.{Access, Loaded, Stored, StoredLow, StoredHigh}
 use Rattle.fe_base.specs.Beats.{Beat, ReadBeat, WriteBeat, BeatLaw}
-use Rattle.fe_base.specs.Transfers.{Transfers, WordAsk, WordStep, Quiet, Loads, Stores, WordDone, WordLaw, word_step, joined}
+use Rattle.fe_base.specs.Transfers.{Transfers, WordAsk, WordStep, Quiet, Loads, Stores, WordDone, WordLaw, word_step}
+use Rattle.fe_base.specs.Transfers.{joined}
 
 -- one doubleword: a read gives it, a write replaces it
 abbrev pub one_turn : ℕ → Beat → ℕ × ℕ
@@ -23,9 +24,27 @@ one_ran v n w = w ≡ v
 -- reads and writes of it are turns
 pub one-turns : BeatLaw (λ (s : ℕ). s < 2 ^ 64) (λ _. Unit {0}) (λ s. s) one_ran one_touched one_turn
 one-turns s (ReadBeat at) ok here =
-    record { steps = 1; between = s; pause = refl; access = (refl, refl); reply_fits = ok; still_valid = ok; some_step = λ _. omega arith; still_positive = λ h. h }
+    record {
+      steps = 1;
+      between = s;
+      pause = refl;
+      access = (refl, refl);
+      reply_fits = ok;
+      still_valid = ok;
+      some_step = λ _. omega arith;
+      still_positive = λ h. h;
+    }
 one-turns s (WriteBeat at value) ok here =
-    record { steps = 1; between = s; pause = refl; access = refl; reply_fits = omega arith; still_valid = here.1; some_step = λ _. omega arith; still_positive = λ h. h }
+    record {
+      steps = 1;
+      between = s;
+      pause = refl;
+      access = refl;
+      reply_fits = omega arith;
+      still_valid = here.1;
+      some_step = λ _. omega arith;
+      still_positive = λ h. h;
+    }
 
 -- the same doubleword behind the word link, with its transfers
 abbrev pub one_stored : Access → ℕ → ℕ
@@ -51,7 +70,8 @@ one_reached v (Stored at value) w = w ≡ one_stored (Stored at value) v
 one_reached v (StoredLow at value) w = w ≡ one_stored (StoredLow at value) v
 one_reached v (StoredHigh at value) w = w ≡ one_stored (StoredHigh at value) v
 
-one-done : (step : WordStep) (v : ℕ) → WordDone one_reached step v (one_worded step v).1 (one_worded step v).0.0 (one_worded step v).0.1
+one-done : (step : WordStep) (v : ℕ) → WordDone one_reached step v (one_worded step v).1 (one_worded step v).0.0
+    (one_worded step v).0.1
 one-done (Quiet reply after) v = (refl, refl, refl)
 one-done (Loads at reply after) v = (v % 2 ^ 64, omega arith, refl, refl, refl)
 one-done (Stores (Loaded at value) after) v = (refl, refl, refl)
@@ -60,6 +80,15 @@ one-done (Stores (StoredLow at value) after) v = (refl, refl, refl)
 one-done (Stores (StoredHigh at value) after) v = (refl, refl, refl)
 
 -- words are turns
-pub one-words : WordLaw (λ (s : Transfers × ℕ). Unit {0}) (λ _. Unit {0}) (λ s. s.1) (λ s. s.0) one_ran one_reached one_word
+pub one-words : WordLaw (λ (s : Transfers × ℕ). Unit {0}) (λ _. Unit {0}) (λ s. s.1)
+    (λ s. s.0) one_ran one_reached one_word
 one-words s ask ok here =
-    record { steps = 1; between = s.1; pause = refl; done = one-done (word_step s.0 ask) s.1; still_valid = tt; some_step = λ _. omega arith; still_positive = λ h. h }
+    record {
+      steps = 1;
+      between = s.1;
+      pause = refl;
+      done = one-done (word_step s.0 ask) s.1;
+      still_valid = tt;
+      some_step = λ _. omega arith;
+      still_positive = λ h. h;
+    }

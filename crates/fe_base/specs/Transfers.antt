@@ -3,7 +3,8 @@
 -- doublewords. That unmapped words read 0 and are dropped when written, and when a doubleword is touched, is this
 -- project's
 -- choice.
-use Rattle.std.specs.Prelude.{◌≡◌, ◌<◌, ℕ, ◌+◌, ◌-◌, ◌*◌, ◌/◌, ◌%◌, ◌^◌, ◌==◌, ◌||◌, Bool, if◌then◌else◌, List, [], ◌∷◌, ◌++◌, length, slice_index, ⊤, Option, Some, None}
+use Rattle.std.specs.Prelude.{◌≡◌, ◌<◌, ℕ, ◌+◌, ◌-◌, ◌*◌, ◌/◌, ◌%◌, ◌^◌, ◌==◌, ◌||◌, Bool, if◌then◌else◌, List, [], ◌∷◌}
+use Rattle.std.specs.Prelude.{◌++◌, length, slice_index, ⊤, Option, Some, None}
 use Rattle.fe_base.specs.Access.{Access, Loaded, Stored, StoredLow, StoredHigh}
 use Rattle.fe_base.specs.MemoryMap.{is_beat}
 
@@ -121,7 +122,14 @@ send_step (kind ∷ low ∷ []) word = goes_on (kind ∷ low ∷ word ∷ [])
 send_step (kind ∷ low ∷ high ∷ []) word = goes_on (kind ∷ low ∷ high ∷ word ∷ [])
 send_step (kind ∷ low ∷ high ∷ few ∷ []) word =
     if kind == 0
-    then Quiet None (record { sent = []; owed = record { count = joined few word + 1; at = word_place (joined low high) 0; high = None } })
+    then Quiet None (record {
+      sent = [];
+      owed = record {
+        count = joined few word + 1;
+        at = word_place (joined low high) 0;
+        high = None;
+      };
+    })
     else goes_on (kind ∷ low ∷ high ∷ few ∷ word ∷ [])
 send_step (kind ∷ low ∷ high ∷ few ∷ many ∷ before) word =
     data_step (kind ∷ low ∷ high ∷ few ∷ many ∷ before) (joined low high) (joined few many) before word
@@ -136,12 +144,15 @@ word_step t GetWord = get_step t
 abbrev pub WordDone : {V : Type 0} → (V → Access → V → Type 0) → WordStep → V → Option ℕ → Transfers → V → Type 0
 WordDone touched (Quiet reply after) between got left seen = (got ≡ reply) × (left ≡ after) × (seen ≡ between)
 WordDone touched (Loads at reply after) between got left seen =
-    (value : ℕ) × (value < 2 ^ 64) × touched between (Loaded at value) seen × (got ≡ Some (reply value)) × (left ≡ after value)
-WordDone touched (Stores access after) between got left seen = (got ≡ None) × (left ≡ after) × touched between access seen
+    (value : ℕ) × (value < 2 ^ 64) × touched between (Loaded at value) seen × (got ≡ Some (reply value))
+    × (left ≡ after value)
+WordDone touched (Stores access after) between got left seen = (got ≡ None) × (left ≡ after)
+    × touched between access seen
 
 -- a turn of a word: some hart steps, at least one where every pause is positive, and then what the word does
 pub record WordTurned {S V : Type 0} (valid positive : S → Type 0) (view : S → V) (transfers : S → Transfers)
-    (ran : V → ℕ → V → Type 0) (touched : V → Access → V → Type 0) (before : S) (ask : WordAsk) (reply : Option ℕ) (after : S) : Type 0 where
+    (ran : V → ℕ → V → Type 0) (touched : V → Access → V → Type 0) (before : S) (ask : WordAsk) (reply : Option ℕ)
+    (after : S) : Type 0 where
   pub steps : ℕ
   pub between : V
   pub pause : ran (view before) steps between

@@ -19,7 +19,8 @@ IfTold None holds = ⊤
 
 -- what a call does to the told state: one that is answered is `next` of the state and of what is asked, with that
 -- reply; one that fails is `lost` of them; one that is spent leaves the state
-abbrev pub Asked : {S Q R T : Type 0} → (S → Q → S × R) → (S → Q → S × R) → Q → (T → R) → Result T WireStop → S → S → Type 0
+abbrev pub Asked : {S Q R T : Type 0} → (S → Q → S × R) → (S → Q → S × R) → Q → (T → R) → Result T WireStop → S → S
+    → Type 0
 Asked next lost ask reply (Ok value) before after = next before ask ≡ (after, reply value)
 Asked next lost ask reply (Err Failed) before after = after ≡ (lost before ask).0
 Asked next lost ask reply (Err Spent) before after = after ≡ before

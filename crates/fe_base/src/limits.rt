@@ -34,7 +34,8 @@ pub const GUEST_FILE_LIMIT: u64 = 268_435_456;
 /// The greatest break that a program may set.
 pub const GREATEST_BREAK: u64 = 0x00f0_0000;
 
-/// Where the stack begins, which grows downwards, and where the main vars stand: the end of the user area less their limit.
+/// Where the stack begins, which grows downwards, and where the main vars stand: the end of the user area less their
+/// limit.
 pub const STACK_TOP: u64 = USER_END - MAIN_VARS_LIMIT;
 
 /// The most hart steps of a pause, before one transaction.

@@ -46,8 +46,8 @@ fn shuffled_pause(seed: u64, turn: u64) -> u32
 }
 
 impl Pauses {
-    /// These pauses one after the other, from the first again behind the last. None exactly where there are none or more
-    /// than 64, or one is above the limit of 1,000,000.
+    /// These pauses one after the other, from the first again behind the last. None exactly where there are none or
+    /// more than 64, or one is above the limit of 1,000,000.
     pub fn list(values: &[u32]) -> Option<Pauses>
         ensures value { IfSome result (λ pauses. pauses ≡ Listed values.now) }
         ensures some { IsSome result ↔ IsPauseList values.now }

@@ -2,7 +2,8 @@ ghost use Rattle.std.specs.Prelude.{◌≡◌, ◌<◌, ◌^◌, ℕ, [], None, 
 ghost use Rattle.std.proofs.Common.{refl, ◌∙◌};
 ghost use Rattle.fe_base.specs.Wires.{Lowers, FailsBy, StaysUnfailed};
 ghost use Rattle.fe_base.specs.DebugModule.{Free, reset_module};
-ghost use Rattle.fe_base.specs.SampleWires.{one_turn, one_touched, one_ran, one-turns, one_word, one_reached, one-words};
+ghost use Rattle.fe_base.specs.SampleWires.{one_turn, one_touched, one_ran, one-turns, one_word, one_reached};
+ghost use Rattle.fe_base.specs.SampleWires.{one-words};
 ghost use Rattle.fe_base.specs.Transfers.{Transfers};
 
 use super::*;

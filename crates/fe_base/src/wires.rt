@@ -1,6 +1,6 @@
-// Wires: what reaches a target by transactions, each of which is a turn of the target. A wire says how many transactions
-// are left and how often it failed. One over a told target also tells its state, what a turn makes of it, and what is seen
-// of the target: that steps were made, and which doublewords were touched.
+// Wires: what reaches a target by transactions, each of which is a turn of the target. A wire says how many
+// transactions are left and how often it failed. One over a told target also tells its state, what a turn makes of it,
+// and what is seen of the target: that steps were made, and which doublewords were touched.
 ghost use Rattle.std.specs.Prelude.{◌≡◌, ◌+◌, ℕ, List, None, IsTrue, Option};
 ghost use Rattle.fe_base.specs.Access.{Access};
 ghost use Rattle.fe_base.specs.Beats.{Beat, ReadBeat, WriteBeat, BeatLaw};
