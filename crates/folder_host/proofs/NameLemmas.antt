@@ -1,5 +1,6 @@
 -- The name before a slash leads out no more than the whole.
-use Rattle.std.proofs.Common.{◌≡◌, ℕ, zero, suc, ◌+◌, ◌<◌, ◌==◌, ◌||◌, Bool, true, false, List, [], ◌∷◌, ◌++◌, length, get_or}
+use Rattle.std.proofs.Common.{◌≡◌, ℕ, zero, suc, ◌<◌, ◌==◌, ◌||◌, Bool, true, false, List, [], ◌∷◌, ◌++◌, length}
+use Rattle.std.proofs.Common.{get_or}
 use Rattle.std.proofs.Common.{take, drop, refl, ap, sym, ◌∙◌, arith}
 use Rattle.std.specs.List.{list_any, onto_first}
 use Rattle.std.proofs.Math.Seq.{take-nil}
@@ -21,7 +22,8 @@ cut_pieces (byte ∷ text) zero within is = slice_split-cons_yes (λ b. b == 47)
 cut_pieces (byte ∷ text) (suc end) within is =
     let behind : List (List ℕ) = pieces_of (drop (suc end) text) in
     let rest : pieces_of text ≡ pieces_of (take end text) ++ behind = cut_pieces text end (omega arith) is in
-    elim (byte == 47) as (λ b. (byte == 47) ≡ b → pieces_of (byte ∷ text) ≡ pieces_of (byte ∷ take end text) ++ behind) [
+    elim (byte == 47)
+    as (λ b. (byte == 47) ≡ b → pieces_of (byte ∷ text) ≡ pieces_of (byte ∷ take end text) ++ behind) [
       | true ↦ λ slash. slice_split-cons_yes (λ b. b == 47) byte text slash ∙ ap (λ ps. [] ∷ ps) rest
           ∙ ap (λ ps. ps ++ behind) (sym (slice_split-cons_yes (λ b. b == 47) byte (take end text) slash))
       | false ↦ λ other. slice_split-cons_no (λ b. b == 47) byte text other ∙ ap (onto_first byte) rest
