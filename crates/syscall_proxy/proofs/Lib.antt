@@ -1,1 +1,4 @@
 pub mod Doublewords
+pub mod Fronts
+pub mod Leaves
+pub mod MainVarsLemmas

@@ -1,0 +1,99 @@
+// A host's call.
+ghost use Rattle.std.specs.Prelude.{◌≡◌, ◌⊎◌, ℕ, List, [], Err, Ok, Some, false, IfOk};
+ghost use Rattle.fe_base.specs.Outside.{Rose};
+ghost use Rattle.folder_tree.specs.Tree.{Tree};
+ghost use Rattle.host_text.specs.Outside.{acts};
+ghost use Rattle.host_text.specs.Played.{Played, at};
+ghost use Rattle.syscall_proxy.specs.CallTable.{call_row};
+ghost use Rattle.syscall_proxy.specs.HostLaws.{Late, NeverFell, Unmoved};
+ghost use Rattle.syscall_proxy.specs.Kept.{kept};
+ghost use Rattle.syscall_proxy.specs.Worlds.{IsSmall, IsWorldOf};
+ghost use Rattle.syscall_proxy.specs.declared.answers.CallFault.{CallFault as Fault};
+
+use crate::calls::Calls;
+use crate::host::Host;
+use crate::objects::Objects;
+use crate::setting::Setting;
+use crate::{CallAnswer, CallFault};
+use chunk_memory::{ChunkPort, Chunked};
+use fe_base::{Sink, Source};
+use folder_tree::Folder;
+
+impl Host {
+    /// Carries out the call of a request: its number, and then its arguments. The row of the call table is what is done
+    /// (`specs/CallTable`), in its order.
+    pub fn call<P: ChunkPort, F: Folder, I: Source, C: Sink>(
+        &mut self,
+        mem: &mut Chunked<P>,
+        folder: &mut F,
+        input: &mut I,
+        console: &mut C,
+        request: [u64; 8],
+    ) -> Result<CallAnswer, CallFault>
+        requires usable { P.usable mem.old }
+        ensures usable { P.usable mem.new }
+        ensures given { self.new.given ≡ self.old.given }
+        ensures played { (waiting : List ℕ) → Played (acts P.ChunkPort F.Folder I.Source C.Sink)
+            (call_row self.old.given self.old.numbers request)
+            (at mem.old folder.old input.old console.old (kept self.old.numbers false waiting)) result
+            (at mem.new folder.new input.new console.new (kept self.new.numbers self.new.acted waiting)) }
+        ensures fault { (fault : Fault) → result ≡ Err fault → Unmoved F.Folder I.Source C.Sink
+            (at mem.old folder.old input.old console.old (kept self.old.numbers false []))
+            (at mem.new folder.new input.new console.new (kept self.new.numbers self.new.acted []))
+            ⊎ Late (at mem.old folder.old input.old console.old (kept self.old.numbers false []))
+            (at mem.new folder.new input.new console.new (kept self.new.numbers self.new.acted [])) fault }
+        ensures file_fault { result ≡ Err CallFault.FileFault → Rose (F.faults folder.old) (F.faults folder.new) }
+        ensures out_of_memory { result ≡ Err CallFault.OutOfMemory → Rose (F.short folder.old) (F.short folder.new) }
+        ensures input_fault { result ≡ Err CallFault.InputFault → Rose (I.faults input.old) (I.faults input.new) }
+        ensures console_fault { result ≡ Err CallFault.ConsoleFault → Rose (C.faults console.old) (C.faults console.new) }
+        ensures counts { NeverFell P.ChunkPort F.Folder I.Source C.Sink
+            (at mem.old folder.old input.old console.old (kept self.old.numbers false []))
+            (at mem.new folder.new input.new console.new (kept self.new.numbers self.new.acted [])) }
+        ensures world { (t : Tree) → F.tree folder.old ≡ Some t → IsWorldOf self.old.numbers t
+            → (now : Tree) × (F.tree folder.new ≡ Some now) × IsWorldOf self.new.numbers now }
+        ensures small { (t : Tree) → F.tree folder.old ≡ Some t → IsWorldOf self.old.numbers t
+            → IfOk result IsSmall }
+        ensures steady { (t : Tree) → F.tree folder.old ≡ Some t → IsWorldOf self.old.numbers t
+            → F.steady folder.old → (result ≡ Err CallFault.FileFault → ⊥)
+            × (F.faults folder.new ≡ F.faults folder.old) × F.steady folder.new }
+    {
+        carry_out(
+            &mut self.calls,
+            &self.setting,
+            mem,
+            folder,
+            input,
+            console,
+            &request,
+        )
+    }
+}
+
+// The call over the objects, lent for its time.
+fn carry_out<P: ChunkPort, F: Folder, I: Source, C: Sink>(
+    calls: &mut Calls,
+    setting: &Setting,
+    mem: &mut Chunked<P>,
+    folder: &mut F,
+    input: &mut I,
+    console: &mut C,
+    request: &[u64; 8],
+) -> Result<CallAnswer, CallFault>
+    requires usable { P.usable mem.old }
+    ensures usable { P.usable mem.new }
+    ensures played { (waiting : List ℕ) → Played (acts P.ChunkPort F.Folder I.Source C.Sink)
+        (call_row setting.now calls.old.numbers request.now)
+        (at mem.old folder.old input.old console.old (kept calls.old.numbers false waiting)) result
+        (at mem.new folder.new input.new console.new (kept calls.new.numbers calls.new.acted waiting)) }
+{
+    let mut objects = Objects {
+        mem,
+        folder,
+        input,
+        console,
+    };
+    calls.acted = false;
+    let result = calls.dispatch(&mut objects, setting, request);
+    objects.end();
+    result
+}
