@@ -6,7 +6,9 @@ ghost use Rattle.fe_base.specs.Wires.{FailsBy, StaysUnfailed};
 ghost use Rattle.target_box.specs.Lined.{Lined, lined, seen, next_line, lost_line, IsDirectLine, IsPositiveLine};
 ghost use Rattle.target_box.specs.StepLaws.{steps-none, steps-more};
 ghost use Rattle.target_box.specs.TargetLaws.{next-turns, lost-turns};
+ghost use Rattle.fe_base.specs.Limits.{pause_limit};
 ghost use Rattle.target_box.specs.Puts.{PutLine};
+ghost use Rattle.target_box.specs.TraceLine.{beat_text};
 ghost use Rattle.target_box.specs.Turn.{IsUsable, ran, touched};
 ghost use Rattle.target_box.specs.declared.target.Link.TheVariants as link_of;
 ghost use Rattle.rv_hart.specs.HartStep.{System};
@@ -22,6 +24,21 @@ pub struct Line<'a, R: Sink> {
     pub target: &'a mut Target,
     /// Where the trace goes.
     pub trace: &'a mut R,
+}
+
+// Puts the line of a transaction on a beat, where the trace is wanted.
+fn put_beat<R: Sink>(trace: &mut R, pause: u32, kind: &str, at: u64, value: u64) -> Result<(), WireStop>
+    requires pause { pause ≤ pause_limit }
+    requires kind { length kind.now ≡ 3 }
+    ensures line { PutLine R.held R.room R.faults R.steady trace.old trace.new (beat_text pause kind.now at value) result }
+    ensures steady { (left : ℕ) → 0 < left → R.steady trace.old × PutSuits (R.room trace.old) (64 * left)
+        → StaysUnfailed (R.faults trace.old) (R.faults trace.new) result
+        (R.steady trace.new × PutSuits (R.room trace.new) (64 * (left - 1))) }
+{
+    if !trace.is_wanted() {
+        return Ok(());
+    }
+    put_line(trace, &beat_line(pause, kind, at, value))
 }
 
 // Puts a line.
@@ -88,7 +105,7 @@ impl<'a, R: Sink> BeatWire for Line<'a, R> {
         }
         let pause = self.target.next_pause();
         let value = self.target.read_turn(at);
-        put_line(self.trace, &beat_line(pause, " r ", at, value))?;
+        put_beat(self.trace, pause, " r ", at, value)?;
         Ok(value)
     }
 
@@ -98,7 +115,7 @@ impl<'a, R: Sink> BeatWire for Line<'a, R> {
         }
         let pause = self.target.next_pause();
         self.target.write_turn(at, value);
-        put_line(self.trace, &beat_line(pause, " w ", at, value))
+        put_beat(self.trace, pause, " w ", at, value)
     }
 
     ghost tells_valid = { λ l usable. usable.target_is };
