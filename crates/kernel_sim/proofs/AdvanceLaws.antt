@@ -21,7 +21,7 @@ use Rattle.kernel_sim.proofs.SpokenLaws.{stores_law}
 use Rattle.kernel_sim.proofs.CauseLaws.{trap-after}
 use Rattle.kernel_sim.proofs.KeptLaws.{user_kept_law, block_kept_law}
 use Rattle.kernel_sim.proofs.HostLaws.{host_law}
-use Rattle.kernel_sim.proofs.ChangeLaws.{user-changes, text-changes, scanned-changes, waits-kind, code-kept, steps-counted}
+use Rattle.kernel_sim.proofs.ChangeLaws.{user-changes, text-changes, scanned-changes, waits-law, code-kept, steps-counted}
 
 posted-told : (was now : PhaseKind) (p : Phase) (old new : System) → Told was now p old new → Posted was now p old new
 posted-told Boot BootWait p old new t = (t.0, t.1)
@@ -43,17 +43,20 @@ steps_advance p sys h s =
     let q = next_phase p (hart_step sys) in
     let t = told_law p q sys (hart_step sys) h.known s.bus_fits s.hart_fits refl n.bus_fits n.hart_fits refl in
     let m = mailbox_law p sys (hart_step sys) h.known s.bus_fits fit refl in
-    let place = place-of p sys h.known in (
-      holds-known q (hart_step sys) (advance_law p sys h.known s.bus_fits s.hart_fits n.bus_fits n.hart_fits),
+    let place = place-of p sys h.known in
+    let held = holds-known q (hart_step sys) (advance_law p sys h.known s.bus_fits s.hart_fits n.bus_fits n.hart_fits) in
+    let text = text-changes p.kind q.kind p sys (hart_step sys) t.0 t.1 in
+    let stored = stores_law p q sys (hart_step sys) h.known s.bus_fits s.hart_fits refl n.bus_fits n.hart_fits refl in (
+      held,
       record {
         order = t.0;
         user = user-changes p.kind q.kind p sys (hart_step sys) t.0 t.1 h.every.request_is m (local-break-of p sys fit p.kind place h.set);
-        text = text-changes p.kind q.kind p sys (hart_step sys) t.0 t.1;
+        text = text;
         scanned = scanned-changes p.kind q.kind p sys (hart_step sys).hart.pc t.0 place;
         posted = posted-told p.kind q.kind p sys (hart_step sys) t.1;
-        stores = stores_law p q sys (hart_step sys) h.known s.bus_fits s.hart_fits refl n.bus_fits n.hart_fits refl;
+        stores = stored;
         mailbox = m;
-        waits = waits-kind p.kind q.kind p sys (hart_step sys) t.0 t.1;
+        waits = waits-law p.kind q.kind p q sys (hart_step sys) t.0 t.1 refl text stored held.row;
         trap = trap-after p sys fit s.hart_fits.csrs_fit p.kind q.kind place t.0 t.0 t.1;
         user_bytes = user_kept_law p sys q.kind h.known fit t.0 t.1;
         boot_block = block_kept_law p sys (hart_step sys) h.known fit refl;

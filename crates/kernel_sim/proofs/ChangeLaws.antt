@@ -1,6 +1,6 @@
 -- Which fields of a phase a step changes.
-use Rattle.std.proofs.Common.{◌≡◌, ℕ, ◌+◌, ◌-◌, ◌^◌, ◌≤◌, ◌==◌, Bool, true, false, ◌⊎◌, inl, inr, Option, Some, None, List, refl, ap, sym, ◌∙◌, arith, if◌then◌else◌}
-use Rattle.std.specs.Prelude.{min, slice_index}
+use Rattle.std.proofs.Common.{◌≡◌, ◌≢◌, ℕ, ◌+◌, ◌-◌, ◌^◌, ◌<◌, ◌≤◌, ◌==◌, Bool, true, false, ◌⊎◌, inl, inr, Option, Some, None, List, refl, ap, sym, ◌∙◌, arith, subst, if◌then◌else◌}
+use Rattle.std.specs.Prelude.{min, length, slice_index}
 use Rattle.std.proofs.lemmas.Bool.{false≢true, eq-eqb, ne_eqb}
 use Rattle.fe_base.specs.Memory.{counted}
 use Rattle.rv_csr.specs.declared.privilege.Mode.TheVariants as mode
@@ -23,14 +23,16 @@ use Rattle.kernel_sim.proofs.UserSteps.{seen_by}
 use Rattle.kernel_sim.specs.declared.phase.PhaseKind.{PhaseKind}
 use Rattle.kernel_sim.specs.declared.phase.PhaseKind.TheVariants.{Boot, BootWait, BootTake, Leave, User, Save, Check, Scan, Fill, Wait, Take, Local, Restore, Speak, Closing}
 use Rattle.kernel_sim.specs.declared.phase.Phase.{Phase}
-use Rattle.kernel_sim.specs.Phases.{request_of, answered, user_after, text_after, scanned_after}
-use Rattle.kernel_sim.specs.Rows.{call_part}
+use Rattle.kernel_sim.specs.declared.phase.Spoken.{Spoken}
+use Rattle.kernel_sim.specs.Phases.{message, request_of, answered, user_after, text_after, scanned_after}
+use Rattle.kernel_sim.specs.Rows.{call_part, Row}
 use Rattle.kernel_sim.specs.Steps.{follows}
 use Rattle.kernel_sim.specs.Traps.{TrapTold}
 use Rattle.kernel_sim.proofs.Told.{Told}
 use Rattle.kernel_sim.specs.Mailbox.{MailboxKept}
 use Rattle.kernel_sim.specs.Stages.{Stage, Starting, Scanning, Looked, Past, Full, stage_kind, stage_number, boot_number, Extra, InKernel, InBoot, InUser, Place}
-use Rattle.kernel_sim.specs.Changes.{UserAfter, TextAfter, ScannedAfter, StepsCounted, CodeKept}
+use Rattle.kernel_sim.specs.Stores.{NextByte, NoByte, NoExit, ExitWord, Stores}
+use Rattle.kernel_sim.specs.Changes.{UserAfter, TextAfter, ScannedAfter, StepsCounted, PutsNone, Waits, CodeKept}
 use Rattle.kernel_sim.proofs.MailLaws.{bus-kept}
 use Rattle.kernel_sim.proofs.KeptLaws.{keeps_by, keeps-at}
 use Rattle.kernel_sim.proofs.HostLaws.{shut-of, boot-shut}
@@ -144,15 +146,47 @@ scanned-changes Speak now p sys pc e i = refl
 scanned-changes Closing now p sys pc e i = refl
 
 -- ---- the waits
-pub waits-kind : (was now : PhaseKind) (p : Phase) (old new : System) → follows was now ≡ true → Told was now p old new → (was ≡ BootWait) ⊎ (was ≡ Wait) → p.fromhost ≡ 0 → now ≡ was
-waits-kind BootWait BootWait p old new e t w z = refl
-waits-kind BootWait BootTake p old new e t w z = absurd (t z)
-waits-kind BootWait now p old new e t w z = absurd (false≢true e)
-waits-kind Wait Wait p old new e t w z = refl
-waits-kind Wait Take p old new e t w z = absurd (t z)
-waits-kind Wait now p old new e t w z = absurd (false≢true e)
-waits-kind was now p old new e t (inl w) z = cc
-waits-kind was now p old new e t (inr w) z = cc
+-- while TOHOST is not 0, no byte is put
+no-byte : (p q : Phase) (old new : System) → Stores Speak p old.hart new.hart q → (q.text.posted ≡ p.text.posted → q.text ≡ p.text) → p.tohost ≢ 0 → PutsNone p q
+no-byte p q old new s f n = go s.0
+  where
+    go : NoByte p q.tohost q.text.posted ⊎ NextByte p q.tohost q.text.posted → PutsNone p q
+    go (inl w) = (w.0, f w.1)
+    go (inr w) = absurd (n w.0)
+
+no-exit : (p q : Phase) (old new : System) → Stores Closing p old.hart new.hart q → q.text ≡ p.text → p.tohost ≢ 0 → PutsNone p q
+no-exit p q old new (inl w) x n = (w.0, x)
+no-exit p q old new (inr w) x n = absurd (n w.0)
+
+-- a message of which bytes are left was not stored whole
+not-whole : (t u : Spoken) → u ≡ t → u.posted ≡ length (message u) → t.posted < length (message t) → ⊥
+not-whole t u e w l =
+    let z : t.posted ≡ length (message t) = subst (λ y. y.posted ≡ length (message y)) e w in
+    omega arith
+
+pub waits-law : (was now : PhaseKind) (p q : Phase) (old new : System) → follows was now ≡ true → Told was now p old new → q.kind ≡ now → TextAfter was now p old q.text → Stores was p old.hart new.hart q → Row now q new → Waits was p q
+waits-law BootWait BootWait p q old new e t k x s r = λ z. k
+waits-law BootWait BootTake p q old new e t k x s r = λ z. absurd (t z)
+waits-law BootWait now p q old new e t k x s r = absurd (false≢true e)
+waits-law Wait Wait p q old new e t k x s r = λ z. k
+waits-law Wait Take p q old new e t k x s r = λ z. absurd (t z)
+waits-law Wait now p q old new e t k x s r = absurd (false≢true e)
+waits-law Speak Speak p q old new e t k x s r = (λ l. k, no-byte p q old new s (λ z. x ∙ ap (λ y. record p.text { posted = y }) z))
+waits-law Speak Closing p q old new e t k x s r = (λ l. absurd (not-whole p.text q.text x r.1 l), no-byte p q old new s (λ z. x))
+waits-law Speak now p q old new e t k x s r = absurd (false≢true e)
+waits-law Closing Closing p q old new e t k x s r = (k, no-exit p q old new s x)
+waits-law Closing now p q old new e t k x s r = absurd (false≢true e)
+waits-law Boot now p q old new e t k x s r = tt
+waits-law BootTake now p q old new e t k x s r = tt
+waits-law Leave now p q old new e t k x s r = tt
+waits-law User now p q old new e t k x s r = tt
+waits-law Save now p q old new e t k x s r = tt
+waits-law Check now p q old new e t k x s r = tt
+waits-law Scan now p q old new e t k x s r = tt
+waits-law Fill now p q old new e t k x s r = tt
+waits-law Take now p q old new e t k x s r = tt
+waits-law Local now p q old new e t k x s r = tt
+waits-law Restore now p q old new e t k x s r = tt
 
 -- ---- the count of user steps, and the code
 module _ (p : Phase) (sys : System) (fit : AreRegisters sys.hart.registers) where

@@ -39,7 +39,7 @@ pub record Advances (p : Phase) (old new : System) (q : Phase) : Type 0 where
   pub posted : Posted p.kind q.kind p old new
   pub stores : Stores p.kind p old.hart new.hart q
   pub mailbox : MailboxKept p.kind q.kind old.bus new.bus
-  pub waits : Waits p q
+  pub waits : Waits p.kind p q
   pub trap : TrapAfter p.kind q.kind old new
   pub user_bytes : UserKept p.kind q.kind old.bus new.bus
   pub boot_block : BootBlockKept old.bus new.bus

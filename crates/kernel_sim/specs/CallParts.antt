@@ -2,7 +2,8 @@
 -- itself.
 use Rattle.std.specs.Prelude.{◌≡◌, ⊤, ℕ, List, if◌then◌else◌}
 use Rattle.fe_base.specs.declared.error_numbers.ErrNo.TheVariants.{EFAULT, ENOSYS}
-use Rattle.plain_machine.specs.CallTable.{Process, Reply, service_of, call_number, argument, refusal, is_buffer, write_count, new_break}
+use Rattle.plain_machine.specs.CallTable.{Process, Reply, service_of, call_number, argument, refusal, is_buffer}
+use Rattle.plain_machine.specs.CallTable.{write_count, new_break}
 use Rattle.plain_machine.specs.KernelPart.{Part, gives, breaks, posts, request, kernel_part}
 use Rattle.plain_machine.specs.declared.calls.Service.{Service}
 use Rattle.plain_machine.specs.declared.calls.Service.TheVariants.{Write, Break, Exit, Unbuilt, Unknown}

@@ -1,5 +1,5 @@
 -- Which fields of a phase a step changes, and how; all others stay.
-use Rattle.std.specs.Prelude.{◌≡◌, ◌⊎◌, ℕ, ◌+◌, ◌≤◌, ◌==◌, ◌&&◌, List, ◌∷◌, replicate, slice_index}
+use Rattle.std.specs.Prelude.{◌≡◌, ◌≢◌, ◌⊎◌, ⊤, ℕ, ◌+◌, ◌<◌, ◌≤◌, ◌==◌, ◌&&◌, List, ◌∷◌, length, replicate, slice_index}
 use Rattle.fe_base.specs.Memory.{counted}
 use Rattle.fe_base.specs.MemoryMap.{boot, kernel_code_size}
 use Rattle.guest_memory.specs.Bus.{BusState}
@@ -12,11 +12,12 @@ use Rattle.plain_machine.specs.Messages.{is_counter_access}
 use Rattle.plain_machine.specs.KernelPart.{gives, breaks}
 use Rattle.kernel_sim.specs.UserMode.{user_of}
 use Rattle.kernel_sim.specs.declared.phase.PhaseKind.{PhaseKind}
-use Rattle.kernel_sim.specs.declared.phase.PhaseKind.TheVariants.{Boot, BootWait, Leave, User, Save, Check, Scan, Wait, Take, Local, Restore, Speak}
+use Rattle.kernel_sim.specs.declared.phase.PhaseKind.TheVariants.{Boot, BootWait, Leave, User, Save, Check, Scan}
+use Rattle.kernel_sim.specs.declared.phase.PhaseKind.TheVariants.{Wait, Take, Local, Restore, Speak, Closing}
 use Rattle.kernel_sim.specs.declared.phase.Phase.{Phase}
 use Rattle.kernel_sim.specs.declared.phase.UserState.{UserState}
 use Rattle.kernel_sim.specs.declared.phase.Spoken.{Spoken}
-use Rattle.kernel_sim.specs.Phases.{dword, answered}
+use Rattle.kernel_sim.specs.Phases.{dword, answered, message}
 use Rattle.kernel_sim.specs.Rows.{call_part}
 
 -- the registers with which the program begins: sp at 0x0100_0000, all others 0
@@ -81,9 +82,18 @@ abbrev pub StepsCounted : PhaseKind → HartState → HartState → Type 0
 StepsCounted User old new = new.user_steps ≡ counted old.user_steps
 StepsCounted was old new = new.user_steps ≡ old.user_steps
 
--- the waits for FROMHOST are left only where it is not 0
-abbrev pub Waits : Phase → Phase → Type 0
-Waits p q = (p.kind ≡ BootWait) ⊎ (p.kind ≡ Wait) → p.fromhost ≡ 0 → q.kind ≡ p.kind
+-- TOHOST stays as it was, and so does the message, with what was posted of it
+abbrev pub PutsNone : Phase → Phase → Type 0
+PutsNone p q = (q.tohost ≡ p.tohost) × (q.text ≡ p.text)
+
+-- a wait goes on while its word is not there: the waits for FROMHOST are left only where it is not 0, Speak only once
+-- the whole message was stored, and Closing never; while TOHOST is not 0, these two store nothing to it
+abbrev pub Waits : PhaseKind → Phase → Phase → Type 0
+Waits BootWait p q = p.fromhost ≡ 0 → q.kind ≡ BootWait
+Waits Wait p q = p.fromhost ≡ 0 → q.kind ≡ Wait
+Waits Speak p q = (p.text.posted < length (message p.text) → q.kind ≡ Speak) × (p.tohost ≢ 0 → PutsNone p q)
+Waits Closing p q = (q.kind ≡ Closing) × (p.tohost ≢ 0 → PutsNone p q)
+Waits kind p q = ⊤
 
 -- the bytes before the kernel's data, its code among them, stay
 abbrev pub CodeKept : BusState → BusState → Type 0

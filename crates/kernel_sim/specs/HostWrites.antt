@@ -1,6 +1,7 @@
 -- What a host may write while the kernel runs, and the phase after it: TOHOST is cleared in any phase; while a request
 -- waits, its first doubleword gets the result, and FROMHOST, which holds 0 as TOHOST does, something that is not 0; and
--- any value goes to a place of the user area.
+-- any value goes to a doubleword of the user area. At a place of it where no doubleword begins, one that 8 does not
+-- divide, the write changes nothing.
 use Rattle.std.specs.Prelude.{◌≡◌, ◌≢◌, ℕ, ◌<◌, ◌≤◌, ◌==◌, if◌then◌else◌, slice_set}
 use Rattle.fe_base.specs.MemoryMap.{user_start, user_end, tohost, request, fromhost}
 use Rattle.kernel_sim.specs.declared.phase.Phase.{Phase}

@@ -1,7 +1,9 @@
 -- What the mailbox holds in each phase.
 use Rattle.std.specs.Prelude.{◌≡◌, ◌≢◌, ℕ}
 use Rattle.kernel_sim.specs.declared.phase.PhaseKind.{PhaseKind}
-use Rattle.kernel_sim.specs.declared.phase.PhaseKind.TheVariants.{Boot, BootWait, BootTake, Leave, User, Save, Check, Scan, Fill, Wait, Take, Local, Restore, Speak, Closing}
+use Rattle.kernel_sim.specs.declared.phase.PhaseKind.TheVariants.{Boot, BootWait, BootTake, Leave, User, Save, Check}
+use Rattle.kernel_sim.specs.declared.phase.PhaseKind.TheVariants.{Scan, Fill, Wait, Take, Local, Restore, Speak}
+use Rattle.kernel_sim.specs.declared.phase.PhaseKind.TheVariants.{Closing}
 
 -- nothing is asked and nothing answered; a request waits for its answer; it was answered; a message is put
 pub data MailClass : Type 0 where

@@ -2,7 +2,8 @@
 use Rattle.std.specs.Prelude.{◌≡◌, ◌⊎◌, ⊤, ℕ}
 use Rattle.guest_memory.specs.Bus.{BusState}
 use Rattle.kernel_sim.specs.declared.phase.PhaseKind.{PhaseKind}
-use Rattle.kernel_sim.specs.declared.phase.PhaseKind.TheVariants.{Boot, BootWait, BootTake, Fill, Wait, Take, Speak, Closing}
+use Rattle.kernel_sim.specs.declared.phase.PhaseKind.TheVariants.{Boot, BootWait, BootTake, Fill, Wait, Take, Speak}
+use Rattle.kernel_sim.specs.declared.phase.PhaseKind.TheVariants.{Closing}
 use Rattle.kernel_sim.specs.Phases.{dword, request_of}
 use Rattle.fe_base.specs.MemoryMap.{tohost, fromhost}
 

@@ -1,16 +1,21 @@
 -- The phase after a step.
-use Rattle.std.specs.Prelude.{ℕ, ◌+◌, ◌-◌, ◌%◌, ◌^◌, ◌==◌, ◌&&◌, min, nat_lt, nat_le, Bool, if◌then◌else◌, List, [], ◌∷◌, slice_index, slice_set}
+use Rattle.std.specs.Prelude.{ℕ, ◌+◌, ◌-◌, ◌%◌, ◌^◌, ◌==◌, ◌&&◌, min, nat_lt, nat_le, Bool, if◌then◌else◌, List, []}
+use Rattle.std.specs.Prelude.{◌∷◌, slice_index, slice_set}
 use Rattle.guest_memory.specs.Bus.{BusState, bus_load}
 use Rattle.rv_csr.specs.declared.privilege.Mode.{Mode}
 use Rattle.rv_csr.specs.declared.privilege.Mode.TheVariants as mode
 use Rattle.rv_hart.specs.HartStep.{HartState, System}
 use Rattle.plain_machine.specs.Messages.{is_counter_access, trap_text, counter_text}
 use Rattle.kernel_sim.specs.declared.phase.PhaseKind.{PhaseKind}
-use Rattle.kernel_sim.specs.declared.phase.PhaseKind.TheVariants.{Boot, BootWait, BootTake, Leave, User, Save, Check, Scan, Fill, Wait, Take, Local, Restore, Speak, Closing}
+use Rattle.kernel_sim.specs.declared.phase.PhaseKind.TheVariants.{Boot, BootWait, BootTake, Leave, User, Save, Check}
+use Rattle.kernel_sim.specs.declared.phase.PhaseKind.TheVariants.{Scan, Fill, Wait, Take, Local, Restore, Speak}
+use Rattle.kernel_sim.specs.declared.phase.PhaseKind.TheVariants.{Closing}
 use Rattle.kernel_sim.specs.declared.phase.Phase.{Phase}
 use Rattle.kernel_sim.specs.declared.phase.UserState.{UserState}
 use Rattle.kernel_sim.specs.declared.phase.Spoken.{Spoken}
-use Rattle.kernel_code.specs.Places.{pc_boot_wait, pc_boot_take, pc_leave, pc_save, pc_check, pc_scan, pc_local, pc_fill, pc_wait, pc_take, pc_restore, pc_speak, pc_close, pc_put_done, pc_path_passed}
+use Rattle.kernel_code.specs.Places.{pc_boot_wait, pc_boot_take, pc_leave, pc_save, pc_check, pc_scan, pc_local}
+use Rattle.kernel_code.specs.Places.{pc_fill, pc_wait, pc_take, pc_restore, pc_speak, pc_close, pc_put_done}
+use Rattle.kernel_code.specs.Places.{pc_path_passed}
 use Rattle.fe_base.specs.MemoryMap.{kernel_start, request, kernel_variables, boot, tohost, fromhost, kernel_end}
 
 -- the kind that a place of the kernel's code belongs to

@@ -1,6 +1,7 @@
 -- How many steps the kernel has left at most in a call, in a message or at the start, and that each step lowers the
 -- number, but where the kernel waits for its host, the program runs, or a next byte is begun.
-use Rattle.std.specs.Prelude.{◌≡◌, ℕ, ◌+◌, ◌-◌, ◌≤◌, ◌<◌, ◌==◌, not, Bool, true, false, if◌then◌else◌, List, slice_index}
+use Rattle.std.specs.Prelude.{◌≡◌, ℕ, ◌+◌, ◌-◌, ◌≤◌, ◌<◌, ◌==◌, not, Bool, true, false, if◌then◌else◌, List}
+use Rattle.std.specs.Prelude.{slice_index}
 use Rattle.rv_hart.specs.HartStep.{HartState}
 use Rattle.kernel_code.specs.Places.{pc_boot_test, pc_wait_test, pc_put_test, pc_closing_test, pc_idle}
 use Rattle.kernel_code.specs.StepsLeft.{left_at, loads_word}

@@ -1,5 +1,6 @@
 -- What holds in each phase, row by row: of the hart, of the kernel area, and of the fields of the phase.
-use Rattle.std.specs.Prelude.{◌≡◌, ◌≢◌, ◌⊎◌, ℕ, ◌+◌, ◌*◌, ◌%◌, ◌^◌, ◌<◌, ◌≤◌, ◌==◌, ◌&&◌, ⊤, true, false, List, [], ◌∷◌, length, slice_index, slice_set}
+use Rattle.std.specs.Prelude.{◌≡◌, ◌≢◌, ◌⊎◌, ℕ, ◌+◌, ◌*◌, ◌%◌, ◌^◌, ◌<◌, ◌≤◌, ◌==◌, ◌&&◌, ⊤, true, false, List, [], ◌∷◌}
+use Rattle.std.specs.Prelude.{length, slice_index, slice_set}
 use Rattle.fe_base.specs.MemoryMap.{tohost, fromhost, frame, boot, kernel_variables}
 use Rattle.guest_memory.specs.Bus.{BusState}
 use Rattle.rv_csr.specs.declared.privilege.Mode.{Mode}
@@ -8,12 +9,15 @@ use Rattle.rv_hart.specs.HartStep.{System}
 use Rattle.rv_hart.specs.declared.debug.Run.TheVariants.{Running}
 use Rattle.plain_machine.specs.UserStep.{is_user}
 use Rattle.plain_machine.specs.Messages.{is_counter_access}
-use Rattle.plain_machine.specs.KernelPart.{Part, gives, breaks, posts, scans, first_part, kernel_part, greatest_path, user_byte}
+use Rattle.plain_machine.specs.KernelPart.{Part, gives, breaks, posts, scans, first_part, kernel_part, greatest_path}
+use Rattle.plain_machine.specs.KernelPart.{user_byte}
 use Rattle.kernel_code.specs.Kernel.{IsImage}
 use Rattle.kernel_code.specs.Places.{pc_save}
 use Rattle.kernel_sim.specs.UserMode.{IsFenced}
 use Rattle.kernel_sim.specs.declared.phase.PhaseKind.{PhaseKind}
-use Rattle.kernel_sim.specs.declared.phase.PhaseKind.TheVariants.{Boot, BootWait, BootTake, Leave, User, Save, Check, Scan, Fill, Wait, Take, Local, Restore, Speak, Closing}
+use Rattle.kernel_sim.specs.declared.phase.PhaseKind.TheVariants.{Boot, BootWait, BootTake, Leave, User, Save, Check}
+use Rattle.kernel_sim.specs.declared.phase.PhaseKind.TheVariants.{Scan, Fill, Wait, Take, Local, Restore, Speak}
+use Rattle.kernel_sim.specs.declared.phase.PhaseKind.TheVariants.{Closing}
 use Rattle.kernel_sim.specs.declared.phase.Phase.{Phase}
 use Rattle.kernel_sim.specs.Phases.{dword, request_of, message}
 use Rattle.kernel_sim.specs.Mail.{mail_class, MailIs}

@@ -1,7 +1,8 @@
 -- What is known in each phase beside the rows: at which place of the kernel's code the hart is, and what holds there in
 -- terms of the numbers at the program's trap. A phase has several stages, since more is known behind a load, behind its
 -- test, or behind a byte that was stored.
-use Rattle.std.specs.Prelude.{◌≡◌, ◌≢◌, ◌⊎◌, ℕ, ◌+◌, ◌-◌, ◌*◌, ◌%◌, ◌^◌, ◌<◌, ◌==◌, ◌&&◌, ⊤, nat_lt, Bool, true, false, if◌then◌else◌, List, [], ◌∷◌, length, slice_index}
+use Rattle.std.specs.Prelude.{◌≡◌, ◌≢◌, ◌⊎◌, ℕ, ◌+◌, ◌-◌, ◌*◌, ◌%◌, ◌^◌, ◌<◌, ◌==◌, ◌&&◌, ⊤, nat_lt, Bool, true, false}
+use Rattle.std.specs.Prelude.{if◌then◌else◌, List, [], ◌∷◌, length, slice_index}
 use Rattle.guest_memory.specs.Memory.{load}
 use Rattle.rv_decode.specs.Alignment.{instruction_alignment}
 use Rattle.rv_csr.specs.declared.privilege.Mode.TheVariants as mode
@@ -10,7 +11,9 @@ use Rattle.rv_hart.specs.declared.debug.Run.TheVariants.{Running}
 use Rattle.plain_machine.specs.Messages.{is_counter_access}
 use Rattle.kernel_sim.specs.UserMode.{IsFenced}
 use Rattle.kernel_sim.specs.declared.phase.PhaseKind.{PhaseKind}
-use Rattle.kernel_sim.specs.declared.phase.PhaseKind.TheVariants.{Boot, BootWait, BootTake, Leave, User, Save, Check, Scan, Fill, Wait, Take, Local, Restore, Speak, Closing}
+use Rattle.kernel_sim.specs.declared.phase.PhaseKind.TheVariants.{Boot, BootWait, BootTake, Leave, User, Save, Check}
+use Rattle.kernel_sim.specs.declared.phase.PhaseKind.TheVariants.{Scan, Fill, Wait, Take, Local, Restore, Speak}
+use Rattle.kernel_sim.specs.declared.phase.PhaseKind.TheVariants.{Closing}
 use Rattle.kernel_sim.specs.declared.phase.Phase.{Phase}
 use Rattle.kernel_sim.specs.declared.phase.UserState.{UserState}
 use Rattle.kernel_sim.specs.declared.phase.Spoken.{Spoken}
@@ -19,12 +22,21 @@ use Rattle.kernel_steps.specs.Blocks.{Here}
 use Rattle.kernel_code.specs.Kernel.{kernel, blocks}
 use Rattle.fe_base.specs.Limits.{greatest_break}
 use Rattle.fe_base.specs.declared.error_numbers.ErrNo.TheVariants.{EFAULT, ENOSYS, ENAMETOOLONG}
-use Rattle.plain_machine.specs.KernelPart.{Part, posts, scans, refused, direct_part, with_path, settled, scan, user_byte, path_request, greatest_path}
+use Rattle.plain_machine.specs.KernelPart.{Part, posts, scans, refused, direct_part, with_path, settled, scan}
+use Rattle.plain_machine.specs.KernelPart.{user_byte, path_request, greatest_path}
 use Rattle.plain_machine.specs.UserStep.{is_user}
 use Rattle.kernel_sim.specs.Phases.{message, dword, request_of}
 use Rattle.kernel_sim.specs.Mail.{mail_class, MailIs}
 use Rattle.kernel_sim.specs.Ready.{need, NeedIs}
-use Rattle.kernel_code.specs.Numbers.{counter_words, trap_words, saving_blocks, checking_blocks, starting_blocks, scanning_blocks, looked_blocks, passed_blocks, full_blocks, found_blocks, filling_blocks, waiting_blocks, tested_blocks, taking_blocks, no_call_blocks, outside_blocks, long_blocks, break_blocks, restoring_blocks, choosing_blocks, counter_end_blocks, trap_end_blocks, counter_idle_blocks, trap_idle_blocks, v_cause, v_value, v_pc, v_break, v_first_break, v_scanned, v_byte, v_word0, v_word1, v_word2, v_word3, v_word4, v_word5, v_length, v_fromhost, booting_blocks, boot_waiting_blocks, boot_tested_blocks, boot_taking_blocks, leaving_blocks, v_entry}
+use Rattle.kernel_code.specs.Numbers.{counter_words, trap_words, saving_blocks, checking_blocks, starting_blocks}
+use Rattle.kernel_code.specs.Numbers.{scanning_blocks, looked_blocks, passed_blocks, full_blocks, found_blocks}
+use Rattle.kernel_code.specs.Numbers.{filling_blocks, waiting_blocks, tested_blocks, taking_blocks, no_call_blocks}
+use Rattle.kernel_code.specs.Numbers.{outside_blocks, long_blocks, break_blocks, restoring_blocks, choosing_blocks}
+use Rattle.kernel_code.specs.Numbers.{counter_end_blocks, trap_end_blocks, counter_idle_blocks, trap_idle_blocks}
+use Rattle.kernel_code.specs.Numbers.{v_cause, v_value, v_pc, v_break, v_first_break, v_scanned, v_byte, v_word0}
+use Rattle.kernel_code.specs.Numbers.{v_word1, v_word2, v_word3, v_word4, v_word5, v_length, v_fromhost, booting_blocks}
+use Rattle.kernel_code.specs.Numbers.{boot_waiting_blocks, boot_tested_blocks, boot_taking_blocks, leaving_blocks}
+use Rattle.kernel_code.specs.Numbers.{v_entry}
 use Rattle.fe_base.specs.MemoryMap.{frame, tohost, fromhost, kernel_variables, boot}
 use Rattle.kernel_code.specs.Places.{pc_save, first_break_place, break_place}
 

@@ -1,7 +1,9 @@
 -- How the kinds follow each other.
 use Rattle.std.specs.Prelude.{Bool, true, false}
 use Rattle.kernel_sim.specs.declared.phase.PhaseKind.{PhaseKind}
-use Rattle.kernel_sim.specs.declared.phase.PhaseKind.TheVariants.{Boot, BootWait, BootTake, Leave, User, Save, Check, Scan, Fill, Wait, Take, Local, Restore, Speak, Closing}
+use Rattle.kernel_sim.specs.declared.phase.PhaseKind.TheVariants.{Boot, BootWait, BootTake, Leave, User, Save, Check}
+use Rattle.kernel_sim.specs.declared.phase.PhaseKind.TheVariants.{Scan, Fill, Wait, Take, Local, Restore, Speak}
+use Rattle.kernel_sim.specs.declared.phase.PhaseKind.TheVariants.{Closing}
 
 -- a step stays in its kind, or goes on to one that may follow
 abbrev pub follows : PhaseKind → PhaseKind → Bool

@@ -240,7 +240,7 @@ pub fn advance(hart: &mut Hart, bus: &mut Bus, phase: Phase) -> Phase
     ensures posted { Posted phase.kind result.kind phase (over bus.old hart.old) (over bus.new hart.new) }
     ensures stores { Stores phase.kind phase hart.old hart.new result }
     ensures mailbox { MailboxKept phase.kind result.kind bus.old bus.new }
-    ensures waits { Waits phase result }
+    ensures waits { Waits phase.kind phase result }
 
     // how many steps are left
     ensures progress { Progress phase hart.old result hart.new }

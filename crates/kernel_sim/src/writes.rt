@@ -34,8 +34,8 @@ fn phase_written(phase: Phase, at: u64, value: u64) -> Phase
 }
 
 /// One doubleword that the host writes: 0 to TOHOST in any phase, and while a request waits, its result to REQUEST, to
-/// FROMHOST, which holds 0 as TOHOST does, what is not 0, and anything to the user area. The answer is the phase that
-/// holds then.
+/// FROMHOST, which holds 0 as TOHOST does, what is not 0, and anything to the user area, where nothing is written at a
+/// place that 8 does not divide. The answer is the phase that holds then.
 pub fn host_write(hart: &Hart, bus: &mut Bus, phase: Phase, at: u64, value: u64) -> Phase
     requires holds { Holds phase (over bus.old hart.now) }
     requires bytes { IsBus bus.old }
