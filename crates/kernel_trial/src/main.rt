@@ -1,6 +1,10 @@
-// The kernel on a hart: the program boots it, makes calls and traps from user mode, plays the host, and compares what is
-// posted, said and restored with tables that were worked out by hand. It prints what differs, how many cases agree, and
-// how many steps the kernel takes.
+// The kernel on a hart: the program boots it, makes calls and traps from user mode, plays the host, and compares what
+// is posted, said and restored with tables that were worked out by hand. It prints what differs, how many cases agree,
+// and how many steps the kernel takes.
+//
+// It is there for that count, which `bench/kernel_steps` shows, docs/KERNEL.md has and the gate compares, and for a run
+// from reset in which no contract of the phases has a part. Through the same calls and traps the tests of `kernel_sim`
+// go phase by phase, by contracts.
 #![tactic(auto)]
 
 mod calls;
