@@ -10,7 +10,6 @@ ghost use Rattle.std.specs.Prelude.{◌≡◌, ℕ, List, [], ◌∷◌, Some, N
 ghost use Rattle.fe_base.specs.Outside.{capacity, HasCause, Puts, PutsRoom, PutSuits, StaysSteady};
 ghost use Rattle.console_device.specs.Bytes.{TakesByte};
 
-
 #[cfg(test)]
 mod tests;
 
@@ -39,5 +38,9 @@ pub fn read_byte<I: Source>(input: &mut I) -> Result<Option<u8>, Failed>
 {
     let mut byte = [0];
     let count = input.take(&mut byte)?;
-    if count == 0 { Ok(None) } else { Ok(Some(byte[0])) }
+    if count == 0 {
+        Ok(None)
+    } else {
+        Ok(Some(byte[0]))
+    }
 }

@@ -5,7 +5,14 @@ use std::test::Fail;
 #[test]
 fn bytes_come_one_by_one(rt: HostRuntime) -> Result<(), Fail> {
     let mut input = ByteSource::new(rt.alloc(), b"a\0\xff", &[1])?;
-    for want in [Ok(Some(b'a')), Err(Failed), Ok(Some(0)), Ok(Some(0xff)), Ok(None), Ok(None)] {
+    for want in [
+        Ok(Some(b'a')),
+        Err(Failed),
+        Ok(Some(0)),
+        Ok(Some(0xff)),
+        Ok(None),
+        Ok(None),
+    ] {
         assert_eq!(rt; read_byte(&mut input), want);
     }
     Ok(())
@@ -14,7 +21,13 @@ fn bytes_come_one_by_one(rt: HostRuntime) -> Result<(), Fail> {
 #[test]
 fn bytes_go_one_by_one(rt: HostRuntime) -> Result<(), Fail> {
     let mut console = ByteSink::new(rt.alloc(), 3, &[1])?;
-    for (byte, want) in [(b'a', Ok(())), (b'b', Err(Failed)), (0, Ok(())), (0xff, Ok(())), (b'c', Err(Failed))] {
+    for (byte, want) in [
+        (b'a', Ok(())),
+        (b'b', Err(Failed)),
+        (0, Ok(())),
+        (0xff, Ok(())),
+        (b'c', Err(Failed)),
+    ] {
         assert_eq!(rt; write_byte(byte, &mut console), want);
     }
     assert_eq!(rt; console.as_slice(), b"a\0\xff".as_slice());

@@ -27,7 +27,13 @@ pub struct Line<'a, R: Sink> {
 }
 
 // Puts the line of a transaction on a beat, where the trace is wanted.
-fn put_beat<R: Sink>(trace: &mut R, pause: u32, kind: &str, at: u64, value: u64) -> Result<(), WireStop>
+fn put_beat<R: Sink>(
+    trace: &mut R,
+    pause: u32,
+    kind: &str,
+    at: u64,
+    value: u64,
+) -> Result<(), WireStop>
     requires pause { pause ≤ pause_limit }
     requires kind { length kind.now ≡ 3 }
     ensures line { PutLine R.held R.room R.faults R.steady trace.old trace.new (beat_text pause kind.now at value) result }
