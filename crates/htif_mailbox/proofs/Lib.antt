@@ -1,0 +1,3 @@
+pub mod AloneLaws
+pub mod Leaves
+pub mod TurnLemmas
