@@ -26,6 +26,7 @@ pub(crate) const MOST_WAITING: usize = 16;
 
 // What is answered to a system call, and to a byte of input with the byte added.
 const CALL_ANSWER: u64 = 1;
+
 const BYTE_ANSWER: u64 = (1 << 56) + 0x100;
 
 /// A host with the answers that wait for its guest, the oldest first, and whether its last command acted.
@@ -38,7 +39,12 @@ pub(crate) struct Handler {
 
 impl Handler {
     // A call's result goes to the request's first doubleword before its answer waits.
-    fn finish<P: ChunkPort>(&mut self, mem: &mut Chunked<P>, place: u64, value: u64) -> Result<Turned, MailFault>
+    fn finish<P: ChunkPort>(
+        &mut self,
+        mem: &mut Chunked<P>,
+        place: u64,
+        value: u64,
+    ) -> Result<Turned, MailFault>
         requires usable { P.usable mem.old }
         requires few { array_vec_len self.old.waiting < MOST_WAITING }
         ensures usable { P.usable mem.new }
@@ -75,7 +81,9 @@ impl Handler {
             (at mem.new folder.new input.new console.new (kept_by self.new)) }
     {
         let bytes = outside::read_request(mem, place)?;
-        let answer = self.host.call(mem, folder, input, console, request_of(&bytes));
+        let answer = self
+            .host
+            .call(mem, folder, input, console, request_of(&bytes));
         self.acted = self.host.acted();
         match answer {
             Err(fault) => Err(MailFault::Call(fault)),
@@ -183,7 +191,11 @@ impl Handler {
     }
 
     /// The part of a turn on fromhost: whether an answer was given.
-    pub fn give<P: ChunkPort>(&mut self, mem: &mut Chunked<P>, fromhost: u64) -> Result<bool, MemStop>
+    pub fn give<P: ChunkPort>(
+        &mut self,
+        mem: &mut Chunked<P>,
+        fromhost: u64,
+    ) -> Result<bool, MemStop>
         requires usable { P.usable mem.old }
         ensures usable { P.usable mem.new }
         ensures host { self.new.host ≡ self.old.host }

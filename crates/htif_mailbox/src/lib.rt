@@ -13,7 +13,6 @@ mod commands;
 mod handler;
 mod mailbox;
 mod outside;
-
 #[cfg(test)]
 mod tests;
 

@@ -33,10 +33,10 @@ impl Model for Mailbox {
     ghost Value = { MailState };
 
     ghost view = { λ m. record {
-        given = m.handler.host.given;
-        kept = kept_by m.handler;
-        tohost = m.tohost;
-        fromhost = m.fromhost;
+      given = m.handler.host.given;
+      kept = kept_by m.handler;
+      tohost = m.tohost;
+      fromhost = m.fromhost;
     } };
 }
 
@@ -52,7 +52,11 @@ impl Mailbox {
             waiting: ArrayVec::new(),
             acted: false,
         };
-        Mailbox { handler, tohost, fromhost }
+        Mailbox {
+            handler,
+            tohost,
+            fromhost,
+        }
     }
 
     /// Whether the last `serve` handled a command that acted: a system call by its own account, a command of the
@@ -137,7 +141,11 @@ impl Mailbox {
             }
             Turned::Idle => {
                 let given = self.give(mem)?;
-                Ok(if given { Turned::Answered } else { Turned::Idle })
+                Ok(if given {
+                    Turned::Answered
+                } else {
+                    Turned::Idle
+                })
             }
         }
     }

@@ -24,7 +24,11 @@ pub(crate) fn read_word<P: ChunkPort>(mem: &mut Chunked<P>, at: u64) -> Result<u
 }
 
 /// Writes a doubleword of the guest.
-pub(crate) fn write_word<P: ChunkPort>(mem: &mut Chunked<P>, at: u64, word: u64) -> Result<(), MemStop>
+pub(crate) fn write_word<P: ChunkPort>(
+    mem: &mut Chunked<P>,
+    at: u64,
+    word: u64,
+) -> Result<(), MemStop>
     requires { P.usable mem.old }
     ensures usable { P.usable mem.new }
     ensures ok { OnOk result (HasWritten P.ChunkPort mem.old mem.new at (to_le_bytes w64 word) (Ok tt)) }
@@ -37,7 +41,10 @@ pub(crate) fn write_word<P: ChunkPort>(mem: &mut Chunked<P>, at: u64, word: u64)
 }
 
 /// Reads the bytes of a request.
-pub(crate) fn read_request<P: ChunkPort>(mem: &mut Chunked<P>, at: u64) -> Result<[u8; REQUEST_SIZE], MemStop>
+pub(crate) fn read_request<P: ChunkPort>(
+    mem: &mut Chunked<P>,
+    at: u64,
+) -> Result<[u8; REQUEST_SIZE], MemStop>
     requires { P.usable mem.old }
     ensures usable { P.usable mem.new }
     ensures ok { IfOk result (λ bytes. HasRead P.ChunkPort mem.old mem.new at REQUEST_SIZE (Ok bytes)) }

@@ -34,8 +34,12 @@ fn make_guest(rt: HostRuntime, input: &[u8]) -> Result<Guest, Fail> {
 impl Guest {
     fn turn(&mut self) -> Result<Turned, MailFault> {
         let mut memory = Chunked::over(RamPort::over(&mut self.bus));
-        self.mailbox
-            .turn(&mut memory, &mut self.folder, &mut self.input, &mut self.console)
+        self.mailbox.turn(
+            &mut memory,
+            &mut self.folder,
+            &mut self.input,
+            &mut self.console,
+        )
     }
 
     // What a turn comes to with this word in tohost.
@@ -50,13 +54,28 @@ fn words_by_device_and_command(rt: HostRuntime) -> Result<(), Fail> {
     let mut guest = make_guest(rt, b"")?;
     let rows = [
         (0x0101_0000_0000_0041, Ok(Turned::Served)),
-        (0x0200_0000_0000_0000, Err(MailFault::BadCommand(0x0200_0000_0000_0000))),
-        (0x00ff_0000_0000_0000, Err(MailFault::BadCommand(0x00ff_0000_0000_0000))),
-        (0x0102_0000_0000_0000, Err(MailFault::BadCommand(0x0102_0000_0000_0000))),
+        (
+            0x0200_0000_0000_0000,
+            Err(MailFault::BadCommand(0x0200_0000_0000_0000)),
+        ),
+        (
+            0x00ff_0000_0000_0000,
+            Err(MailFault::BadCommand(0x00ff_0000_0000_0000)),
+        ),
+        (
+            0x0102_0000_0000_0000,
+            Err(MailFault::BadCommand(0x0102_0000_0000_0000)),
+        ),
         (0x0100_0000_0000_0000, Ok(Turned::Served)),
         (4, Err(MailFault::Port(MemStop::Unmapped(0)))),
-        (0x8001_0000, Err(MailFault::Port(MemStop::Unmapped(0x8001_0000)))),
-        (0x0200_0000, Err(MailFault::Port(MemStop::Unmapped(0x0200_0008)))),
+        (
+            0x8001_0000,
+            Err(MailFault::Port(MemStop::Unmapped(0x8001_0000))),
+        ),
+        (
+            0x0200_0000,
+            Err(MailFault::Port(MemStop::Unmapped(0x0200_0008))),
+        ),
         (7, Ok(Turned::Exited(3))),
         (0xffff_ffff_ffff, Ok(Turned::Exited(255))),
         (0, Ok(Turned::Idle)),
