@@ -1,9 +1,11 @@
 -- Small wires over which the tests speak, with their laws. Nothing but the tests cites them.
-use Rattle.std.proofs.Common.{◌≡◌, ℕ, ◌+◌, ◌-◌, ◌%◌, ◌<◌, ◌^◌, Option, Some, None, refl, arith}
+use Rattle.std.proofs.Common.{◌≡◌, ℕ, ◌+◌, ◌-◌, ◌%◌, ◌<◌, ◌^◌, ◌==◌, Bool, if◌then◌else◌, Option, Some, None, refl}
+use Rattle.std.proofs.Common.{arith}
 use Rattle.fe_base.specs.Access.{Access, Loaded, Stored, StoredLow, StoredHigh}
 use Rattle.fe_base.specs.Beats.{Beat, ReadBeat, WriteBeat, BeatLaw}
 use Rattle.fe_base.specs.Transfers.{Transfers, WordAsk, WordStep, Quiet, Loads, Stores, WordDone, WordLaw, word_step}
-use Rattle.fe_base.specs.Transfers.{joined}
+use Rattle.fe_base.specs.Transfers.{Owed, joined, nothing_owed}
+use Rattle.fe_base.specs.MemoryMap.{is_beat}
 
 -- one doubleword: a read gives it, a write replaces it
 abbrev pub one_turn : ℕ → Beat → ℕ × ℕ
@@ -62,6 +64,20 @@ one_worded (Stores access after) v = ((after, one_stored access v), None)
 -- a word
 abbrev pub one_word : Transfers × ℕ → WordAsk → (Transfers × ℕ) × Option ℕ
 one_word s ask = one_worded (word_step s.0 ask) s.1
+
+-- the words that are owed, by whether there are any and how many more than one
+abbrev pub owed_from : Bool → ℕ → ℕ → Option ℕ → Owed
+owed_from owes more at high = if owes then record { count = more + 1; at = at; high = high } else nothing_owed
+
+-- the doubleword behind a data word at an address, the last one of its transfer or not, before which so many came, and
+-- this one last
+abbrev pub data_stored : ℕ → ℕ → ℕ → ℕ → Bool → ℕ → ℕ
+data_stored at before low word last v =
+    if at % 8 == 4
+    then (if is_beat (at - 4)
+    then one_stored (if before == 0 then StoredHigh (at - 4) word else Stored (at - 4) (joined low word)) v
+    else v)
+    else (if last then (if is_beat at then one_stored (StoredLow at word) v else v) else v)
 
 -- what an access does to it, behind the word link
 abbrev pub one_reached : ℕ → Access → ℕ → Type 0

@@ -1,8 +1,6 @@
 -- Transfers of the word link (the TSI protocol of riscv-isa-sim's fesvr): words that are sent and got, and what they do
--- to
--- doublewords. That unmapped words read 0 and are dropped when written, and when a doubleword is touched, is this
--- project's
--- choice.
+-- to doublewords. That unmapped words read 0 and are dropped when written, and when a doubleword is touched, is this
+-- project's choice.
 use Rattle.std.specs.Prelude.{◌≡◌, ◌<◌, ℕ, ◌+◌, ◌-◌, ◌*◌, ◌/◌, ◌%◌, ◌^◌, ◌==◌, ◌||◌, Bool, if◌then◌else◌, List, [], ◌∷◌}
 use Rattle.std.specs.Prelude.{◌++◌, length, slice_index, ⊤, Option, Some, None}
 use Rattle.fe_base.specs.Access.{Access, Loaded, Stored, StoredLow, StoredHigh}
