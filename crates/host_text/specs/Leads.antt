@@ -4,7 +4,8 @@ use Rattle.folder_tree.specs.Tree.{Tree}
 use Rattle.folder_tree.specs.TreeOps.{After}
 use Rattle.host_text.specs.Text.{Query, Reply, row_of, Text, Done, Fail, Read, Write, Take, Put, Ask, Note, Look}
 
--- from a tree and what the host keeps: each call suits the tree that it finds, the text does not fail by itself, and its
+-- from a tree and what the host keeps: each call suits the tree that it finds, the text does not fail by itself, and
+-- its
 -- answer, with the tree and what is kept then, is a good one
 abbrev pub Leads : {H A E : Type 0} → (A → Tree → H → Type 0) → Text H A E → Tree → H → Type 0
 Leads good (Done a) t h = good a t h
@@ -13,6 +14,7 @@ Leads good (Read at count stop k) t h = (bytes : List ℕ) → length bytes ≡ 
 Leads good (Write at bytes stop k) t h = Leads good k t h
 Leads good (Take count stop k) t h = (bytes : List ℕ) → length bytes ≤ count → Leads good (k bytes) t h
 Leads good (Put bytes stop k) t h = Leads good k t h
-Leads good (Ask q stop k) t h = (after : After (Reply q)) × (row_of q t ≡ Some after) × Leads good (k after.answer) after.tree h
+Leads good (Ask q stop k) t h = (after : After (Reply q)) × (row_of q t ≡ Some after)
+    × Leads good (k after.answer) after.tree h
 Leads good (Note g k) t h = Leads good k t (g h)
 Leads good (Look k) t h = Leads good (k h) t h

@@ -1,4 +1,5 @@
--- What to believe: texts, what it is to follow one, the acts of the objects, the world, and what a text does over told contents.
+-- What to believe: texts, what it is to follow one, the acts of the objects, the world, and what a text does over
+-- told contents.
 pub mod Text
 pub mod Played
 pub mod Outside
@@ -16,3 +17,4 @@ pub mod Causes
 pub mod Blames
 pub mod Told
 pub mod Steady
+pub mod Streams

@@ -1,5 +1,6 @@
 -- What the calls of the objects say, as acts of a text.
-use Rattle.std.specs.Prelude.{◌≡◌, ◌≤◌, ℕ, List, take, drop, length, Option, Some, None, Result, Ok, Err, IfOk, IsOk, IsErrOf}
+use Rattle.std.specs.Prelude.{◌≡◌, ◌≤◌, ℕ, List, take, drop, length, Option, Some, None, Result, Ok, Err, IfOk, IsOk}
+use Rattle.std.specs.Prelude.{IsErrOf}
 use Rattle.std.specs.Result.{result_err}
 use Rattle.chunk_memory.specs.Ports.{CostsAtMost, Maps, MemCauses, MemUnfaulted}
 use Rattle.chunk_memory.specs.Spelling.{ReadSpelled, WriteSpelled}
@@ -21,34 +22,41 @@ use Rattle.host_text.specs.Text.{Query, Reply, row_of}
 use Rattle.host_text.specs.Played.{Acts}
 
 -- what one read of a range of memory did, over this port
-pub record HasRead {P : Type 0} (d : port.Ghosts P) (p p' : P) (place count : ℕ) (r : Result (List ℕ) MemStop) : Type 0 where
+pub record HasRead {P : Type 0} (d : port.Ghosts P) (p p' : P) (place count : ℕ) (r : Result (List ℕ) MemStop)
+    : Type 0 where
   pub kept : d.kept p' ≡ d.kept p
   pub maps : Maps place count (result_err r)
   pub causes : MemCauses (d.counts p) (d.counts p') (result_err r)
   pub steady : d.steady p → MemUnfaulted (d.counts p) (d.counts p') (result_err r) (d.steady p')
-  pub turns : CostsAtMost (d.told p) d.ready d.positive (d.counts p) (d.counts p') (read_turns d.cost d.unit d.most place count)
+  pub turns : CostsAtMost (d.told p) d.ready d.positive (d.counts p) (d.counts p')
+      (read_turns d.cost d.unit d.most place count)
   pub told : OnTold (d.told p) (d.told p') (ReadsRange d.one d.refused d.unit d.most place count r)
-  pub reached : OnTold (d.told p) (d.told p') (λ a b. d.ready a → ReadSpelled d.view d.stands d.ready d.positive d.ran d.reached d.unit place count r a b)
+  pub reached : OnTold (d.told p) (d.told p')
+      (λ a b. d.ready a → ReadSpelled d.view d.stands d.ready d.positive d.ran d.reached d.unit place count r a b)
   pub unmapped : (doubleword : ℕ) → IsErrOf r (Unmapped doubleword) → p' ≡ p
   pub empty : count ≡ 0 → p' ≡ p
   pub empty_done : count ≡ 0 → IsOk r
   pub bytes : IfOk r (λ got. length got ≡ count)
 
 -- what one write of a range of memory did, over this port
-pub record HasWritten {P : Type 0} (d : port.Ghosts P) (p p' : P) (place : ℕ) (from : List ℕ) (r : Result Unit MemStop) : Type 0 where
+pub record HasWritten {P : Type 0} (d : port.Ghosts P) (p p' : P) (place : ℕ) (from : List ℕ) (r : Result Unit MemStop)
+    : Type 0 where
   pub kept : d.kept p' ≡ d.kept p
   pub maps : Maps place (length from) (result_err r)
   pub causes : MemCauses (d.counts p) (d.counts p') (result_err r)
   pub steady : d.steady p → MemUnfaulted (d.counts p) (d.counts p') (result_err r) (d.steady p')
-  pub turns : CostsAtMost (d.told p) d.ready d.positive (d.counts p) (d.counts p') (write_turns d.cost d.unit d.most place (length from))
+  pub turns : CostsAtMost (d.told p) d.ready d.positive (d.counts p) (d.counts p')
+      (write_turns d.cost d.unit d.most place (length from))
   pub told : OnTold (d.told p) (d.told p') (WritesRange d.one d.refused d.unit d.most place from r)
-  pub reached : OnTold (d.told p) (d.told p') (λ a b. d.ready a → WriteSpelled d.view d.stands d.ready d.positive d.ran d.reached d.unit place from r a b)
+  pub reached : OnTold (d.told p) (d.told p')
+      (λ a b. d.ready a → WriteSpelled d.view d.stands d.ready d.positive d.ran d.reached d.unit place from r a b)
   pub unmapped : (doubleword : ℕ) → IsErrOf r (Unmapped doubleword) → p' ≡ p
   pub empty : length from ≡ 0 → p' ≡ p
   pub empty_done : length from ≡ 0 → IsOk r
 
 -- what one call of a folder did
-pub record HasCalled {F A : Type 0} (d : folder.Ghosts F) (f f' : F) (row : Row A) (r : Result A FolderStop) : Type 0 where
+pub record HasCalled {F A : Type 0} (d : folder.Ghosts F) (f f' : F) (row : Row A) (r : Result A FolderStop)
+    : Type 0 where
   pub tree : Answers (d.tree f) (d.tree f') row r
   pub untold : d.tree f ≡ None → d.tree f' ≡ None
   pub cause : HasCauses (d.faults f) (d.faults f') (d.short f) (d.short f') r
@@ -60,7 +68,8 @@ TakesOff left after count (Ok bytes) = (bytes ≡ take count left) × (after ≡
 TakesOff left after count (Err why) = after ≡ Some left
 
 -- what one take did
-pub record HasTaken {I : Type 0} (d : source.Ghosts I) (i i' : I) (count : ℕ) (r : Result (List ℕ) Failed) : Type 0 where
+pub record HasTaken {I : Type 0} (d : source.Ghosts I) (i i' : I) (count : ℕ) (r : Result (List ℕ) Failed)
+    : Type 0 where
   pub bound : IfOk r (λ bytes. length bytes ≤ count)
   pub bytes : (left : List ℕ) → d.left i ≡ Some left → TakesOff left (d.left i') count r
   pub untold : d.left i ≡ None → d.left i' ≡ None

@@ -1,6 +1,8 @@
--- What a call's text comes to that is refused over objects that tell a place: it had not acted, and then all is as before,
+-- What a call's text comes to that is refused over objects that tell a place: it had not acted, and then all is as
+-- before,
 -- but for opens; or it had, and then the world is that of its run.
-use Rattle.std.specs.Prelude.{◌≡◌, ◌⊎◌, ◌≤◌, ℕ, true, false, List, ◌++◌, take, drop, length, Option, Some, None, Result, Ok, Err, refl}
+use Rattle.std.specs.Prelude.{◌≡◌, ◌⊎◌, ◌≤◌, ℕ, true, false, List, ◌++◌, take, drop, length, Option, Some, None, Result}
+use Rattle.std.specs.Prelude.{Ok, Err, refl}
 use Rattle.std.proofs.Common.{sym, subst, ap, ◌∙◌, inl, inr}
 use Rattle.chunk_memory.specs.declared.stops.MemStop.{MemStop}
 use Rattle.fe_base.specs.declared.outside.Failed.{Failed}
@@ -8,27 +10,39 @@ use Rattle.folder_tree.specs.Tree.{Tree}
 use Rattle.folder_tree.specs.TreeOps.{After}
 use Rattle.folder_tree.specs.declared.folder.FolderStop.{FolderStop}
 use Rattle.host_text.specs.Text.{Query, Reply, row_of, Text, Done, Fail, Read, Write, Take, Put, Ask, Note, Look}
-use Rattle.host_text.specs.Played.{Acts, At, Played, ended, failed, has_read, read_stopped, has_written, write_stopped, has_taken, take_stopped, has_put, put_stopped, has_asked, ask_stopped, noted, looked}
+use Rattle.host_text.specs.Played.{Acts, At, Played, ended, failed, has_read, read_stopped, has_written, write_stopped}
+use Rattle.host_text.specs.Played.{has_taken, take_stopped, has_put, put_stopped, has_asked, ask_stopped, noted, looked}
 use Rattle.host_text.specs.World.{Contents}
 use Rattle.host_text.specs.Runs.{Place, Bytes, End, on_row, run, Ties, ReplyFits, Within}
 use Rattle.host_text.specs.Shapes.{Stops, is_quiet, either, EndsBy, Ends, Closes, Shaped}
 
-module _ {X F I C M H A E : Type 0} (o : Acts X F I C) (m : Bytes M) (fits : ℕ → ℕ → Type 0) (memory : X → M → Type 0) (tree : F → Tree → Type 0) (input : I → List ℕ → Type 0) (console : C → List ℕ → Type 0)
-    (on_read : (x x' : X) (t : M) (at count : ℕ) (bytes : List ℕ) → fits at count → memory x t → o.read x at count (Ok bytes) x' → memory x' t × (bytes ≡ m.get t at count) × (length bytes ≡ count))
-    (on_write : (x x' : X) (t : M) (at : ℕ) (bytes : List ℕ) → fits at (length bytes) → memory x t → o.write x at bytes (Ok tt) x' → memory x' (m.set t at bytes))
-    (on_ask : (f f' : F) (t : Tree) (q : Query) (reply : Reply q) → tree f t → o.ask q f (Ok reply) f' → (now : Tree) × (row_of q t ≡ Some (record { answer = reply; tree = now })) × tree f' now × ReplyFits q reply)
-    (on_take : (i i' : I) (left : List ℕ) (count : ℕ) (bytes : List ℕ) → input i left → o.take i count (Ok bytes) i' → (bytes ≡ take count left) × input i' (drop count left) × (length bytes ≤ count))
-    (on_put : (c c' : C) (held : List ℕ) (bytes : List ℕ) → console c held → o.put c bytes (Ok tt) c' → console c' (held ++ bytes))
+module _ {X F I C M H A E : Type 0} (o : Acts X F I C) (m : Bytes M) (fits : ℕ → ℕ → Type 0) (memory : X → M → Type 0)
+    (tree : F → Tree → Type 0) (input : I → List ℕ → Type 0) (console : C → List ℕ → Type 0)
+    (on_read : (x x' : X) (t : M) (at count : ℕ) (bytes : List ℕ) → fits at count → memory x t
+    → o.read x at count (Ok bytes) x' → memory x' t × (bytes ≡ m.get t at count) × (length bytes ≡ count))
+    (on_write : (x x' : X) (t : M) (at : ℕ) (bytes : List ℕ) → fits at (length bytes) → memory x t
+    → o.write x at bytes (Ok tt) x' → memory x' (m.set t at bytes))
+    (on_ask : (f f' : F) (t : Tree) (q : Query) (reply : Reply q) → tree f t → o.ask q f (Ok reply) f' → (now : Tree)
+    × (row_of q t ≡ Some (record { answer = reply; tree = now })) × tree f' now × ReplyFits q reply)
+    (on_take : (i i' : I) (left : List ℕ) (count : ℕ) (bytes : List ℕ) → input i left → o.take i count (Ok bytes) i'
+    → (bytes ≡ take count left) × input i' (drop count left) × (length bytes ≤ count))
+    (on_put : (c c' : C) (held : List ℕ) (bytes : List ℕ) → console c held → o.put c bytes (Ok tt) c'
+    → console c' (held ++ bytes))
     (z : Stops E) (marks : (H → H) → Type 0) (answers : A → Type 0) (left : X → Type 0) (Quiet : Tree → Tree → Type 0)
     (still : (t : Tree) → Quiet t t)
     (joins : (t u v : Tree) → Quiet t u → Quiet u v → Quiet t v)
-    (quiet : (q : Query) (t : Tree) (after : After (Reply q)) → is_quiet q ≡ true → row_of q t ≡ Some after → Quiet t after.tree)
+    (quiet : (q : Query) (t : Tree) (after : After (Reply q)) → is_quiet q ≡ true → row_of q t ≡ Some after
+    → Quiet t after.tree)
     (held : (x : X) (t : M) → memory x t → left x)
-    (off_read : (x x' : X) (t : M) (at count : ℕ) (why : MemStop) → fits at count → memory x t → o.read x at count (Err why) x' → left x')
-    (off_write : (x x' : X) (t : M) (at : ℕ) (bytes : List ℕ) (why : MemStop) → fits at (length bytes) → memory x t → o.write x at bytes (Err why) x' → left x')
+    (off_read : (x x' : X) (t : M) (at count : ℕ) (why : MemStop) → fits at count → memory x t
+    → o.read x at count (Err why) x' → left x')
+    (off_write : (x x' : X) (t : M) (at : ℕ) (bytes : List ℕ) (why : MemStop) → fits at (length bytes) → memory x t
+    → o.write x at bytes (Err why) x' → left x')
     (off_ask : (f f' : F) (t : Tree) (q : Query) (why : FolderStop) → tree f t → o.ask q f (Err why) f' → tree f' t)
-    (off_take : (i i' : I) (was : List ℕ) (count : ℕ) (why : Failed) → input i was → o.take i count (Err why) i' → input i' was)
-    (off_put : (c c' : C) (was : List ℕ) (bytes : List ℕ) (why : Failed) → console c was → o.put c bytes (Err why) c' → console c' was) where
+    (off_take : (i i' : I) (was : List ℕ) (count : ℕ) (why : Failed) → input i was → o.take i count (Err why) i'
+    → input i' was)
+    (off_put : (c c' : C) (was : List ℕ) (bytes : List ℕ) (why : Failed) → console c was → o.put c bytes (Err why) c'
+    → console c' was) where
   -- the port is left so, and the rest tells this world and keeps this
   pub record LeftAt (s' : At X F I C H) (w : Contents) (k : H) : Type 0 where
     pub port : left s'.port
@@ -45,9 +59,11 @@ module _ {X F I C M H A E : Type 0} (o : Acts X F I C) (m : Bytes M) (fits : ℕ
   Late t p s' = (e : End M H A) × (run m t p ≡ Some e) × LeftAt s' e.place.contents e.place.kept × answers e.answer
 
   -- while only the guest is written, the run has an end, which leaves the world
-  ends-total : (t : Text H A E) (p : Place M H) → Ends z marks answers t → EndsBy answers t → (e : End M H A) × (run m t p ≡ Some e) × (e.place.contents ≡ p.contents) × (e.place.kept ≡ p.kept) × answers e.answer
+  ends-total : (t : Text H A E) (p : Place M H) → Ends z marks answers t → EndsBy answers t → (e : End M H A)
+      × (run m t p ≡ Some e) × (e.place.contents ≡ p.contents) × (e.place.kept ≡ p.kept) × answers e.answer
   ends-total (Done a) p shape by = (record { answer = a; place = p }, refl, refl, refl, by)
-  ends-total (Write at bytes stop k) p shape by = ends-total k (record p { memory = m.set p.memory at bytes }) shape.1 by
+  ends-total (Write at bytes stop k) p shape by =
+      ends-total k (record p { memory = m.set p.memory at bytes }) shape.1 by
   ends-total (Fail e) p shape by = absurd shape
   ends-total (Read at count stop k) p shape by = absurd shape
   ends-total (Take count stop k) p shape by = absurd shape
@@ -56,18 +72,38 @@ module _ {X F I C M H A E : Type 0} (o : Acts X F I C) (m : Bytes M) (fits : ℕ
   ends-total (Note g k) p shape by = absurd shape
   ends-total (Look k) p shape by = absurd shape
 
-  ends-late : {t : Text H A E} {s s' : At X F I C H} {r : Result A E} (e : E) (p : Place M H) → r ≡ Err e → Ends z marks answers t → Within fits t → Ties memory tree input console s p → Played o t s r s' → Late t p s'
+  ends-late : {t : Text H A E} {s s' : At X F I C H} {r : Result A E} (e : E) (p : Place M H) → r ≡ Err e
+      → Ends z marks answers t → Within fits t → Ties memory tree input console s p → Played o t s r s' → Late t p s'
   ends-late e p h shape inside ties (ended q same) = let no : ⊥ = cc in absurd no
   ends-late e p h shape inside ties (has_written {place = at} {bytes = bytes} {s = s} {x = x} d next) =
       ends-late e (record p { memory = m.set p.memory at bytes }) h shape.1 inside.1
-      (record { memory_is = on_write s.port x p.memory at bytes inside.0 ties.memory_is d; tree_is = ties.tree_is; input_is = ties.input_is; console_is = ties.console_is; kept_is = ties.kept_is }) next
-  ends-late e p h shape inside ties (write_stopped {place = at} {bytes = bytes} {k = k} {s = s} {x = x} {why = why} d q same) =
+      (record {
+        memory_is = on_write s.port x p.memory at bytes inside.0 ties.memory_is d;
+        tree_is = ties.tree_is;
+        input_is = ties.input_is;
+        console_is = ties.console_is;
+        kept_is = ties.kept_is;
+      }) next
+  ends-late e p h shape inside ties
+      (write_stopped {place = at} {bytes = bytes} {k = k} {s = s} {x = x} {why = why} d q same) =
       let all = ends-total k (record p { memory = m.set p.memory at bytes }) shape.1 shape.2 in
       let P : At X F I C H → Type 0 = λ m'. LeftAt m' all.0.place.contents all.0.place.kept in
       let T : Contents → Type 0 = λ w. tree s.folder w.tree in
       let N : Contents → Type 0 = λ w. input s.input w.input in
-      let Q : Contents → Type 0 = λ w. console s.console w.console in
-      (all.0, all.1, subst P (sym same) (record { port = off_write s.port x p.memory at bytes why inside.0 ties.memory_is d; tree_is = subst T (sym all.2) ties.tree_is; input_is = subst N (sym all.2) ties.input_is; console_is = subst Q (sym all.2) ties.console_is; kept_is = ties.kept_is ∙ sym all.3 }), all.4)
+      let Q : Contents → Type 0 = λ w. console s.console w.console in (
+        all.0,
+        all.1,
+        subst P (sym same)
+            (record {
+              port = off_write s.port x p.memory at bytes why inside.0 ties.memory_is d;
+              tree_is = subst T (sym all.2) ties.tree_is;
+              input_is = subst N (sym all.2) ties.input_is;
+              console_is =
+                  subst Q (sym all.2) ties.console_is;
+              kept_is = ties.kept_is ∙ sym all.3;
+            }),
+        all.4,
+      )
   ends-late e p h shape inside ties (failed _ _) = absurd shape
   ends-late e p h shape inside ties (has_read _ _) = absurd shape
   ends-late e p h shape inside ties (read_stopped _ _ _) = absurd shape
@@ -80,9 +116,17 @@ module _ {X F I C M H A E : Type 0} (o : Acts X F I C) (m : Bytes M) (fits : ℕ
   ends-late e p h shape inside ties (noted _ _) = absurd shape
   ends-late e p h shape inside ties (looked _) = absurd shape
 
-  closes-late : {t : Text H A E} {s s' : At X F I C H} {r : Result A E} (e : E) (p : Place M H) → r ≡ Err e → Closes z marks answers t → Within fits t → Ties memory tree input console s p → Played o t s r s' → Late t p s'
+  closes-late : {t : Text H A E} {s s' : At X F I C H} {r : Result A E} (e : E) (p : Place M H) → r ≡ Err e
+      → Closes z marks answers t → Within fits t → Ties memory tree input console s p → Played o t s r s' → Late t p s'
   closes-late e p h shape inside ties (noted {g = g} n next) =
-      ends-late e (record p { kept = g p.kept }) h shape.1 inside (record { memory_is = ties.memory_is; tree_is = ties.tree_is; input_is = ties.input_is; console_is = ties.console_is; kept_is = n ∙ ap g ties.kept_is }) next
+      ends-late e (record p { kept = g p.kept }) h shape.1 inside
+      (record {
+        memory_is = ties.memory_is;
+        tree_is = ties.tree_is;
+        input_is = ties.input_is;
+        console_is = ties.console_is;
+        kept_is = n ∙ ap g ties.kept_is;
+      }) next
   closes-late e p h shape inside ties (ended _ _) = absurd shape
   closes-late e p h shape inside ties (failed _ _) = absurd shape
   closes-late e p h shape inside ties (has_read _ _) = absurd shape
@@ -98,47 +142,120 @@ module _ {X F I C M H A E : Type 0} (o : Acts X F I C) (m : Bytes M) (fits : ℕ
   closes-late e p h shape inside ties (looked _) = absurd shape
 
   unmoved : (s s' : At X F I C H) (p : Place M H) → s' ≡ s → LeftAt s p.contents p.kept → Before s' p
-  unmoved s s' p same l = let P : At X F I C H → Type 0 = λ z. LeftAt z p.contents p.kept in (p.contents.tree, still p.contents.tree, subst P (sym same) l)
+  unmoved s s' p same l = let P : At X F I C H → Type 0 =
+      λ z. LeftAt z p.contents p.kept in (p.contents.tree, still p.contents.tree, subst P (sym same) l)
 
   -- a refused text of the shape
-  pub refused : {t : Text H A E} {s s' : At X F I C H} {r : Result A E} (e : E) (p : Place M H) → r ≡ Err e → Shaped z marks answers t → Within fits t → Ties memory tree input console s p → Played o t s r s' → Before s' p ⊎ Late t p s'
-  refused e p h shape inside ties (has_read {place = at} {count = count} {k = k} {s = s} {x = x} {bytes = bytes} d next) =
+  pub refused : {t : Text H A E} {s s' : At X F I C H} {r : Result A E} (e : E) (p : Place M H) → r ≡ Err e
+      → Shaped z marks answers t → Within fits t → Ties memory tree input console s p → Played o t s r s' → Before s' p
+      ⊎ Late t p s'
+  refused e p h shape inside ties
+      (has_read {place = at} {count = count} {k = k} {s = s} {x = x} {bytes = bytes} d next) =
       let got = on_read s.port x p.memory at count bytes inside.0 ties.memory_is d in
-      elim (refused e p h (shape.1 bytes) (inside.1 bytes got.2) (record { memory_is = got.0; tree_is = ties.tree_is; input_is = ties.input_is; console_is = ties.console_is; kept_is = ties.kept_is }) next) [
+      elim (refused e p h (shape.1 bytes) (inside.1 bytes got.2)
+      (record {
+        memory_is = got.0;
+        tree_is = ties.tree_is;
+        input_is = ties.input_is;
+        console_is = ties.console_is;
+        kept_is = ties.kept_is;
+      }) next) [
         | inl b ↦ inl b
         | inr l ↦ inr (l.0, ap (λ b. run m (k b) p) (sym got.1) ∙ l.1, l.2, l.3)
       ]
-  refused e p h shape inside ties (read_stopped {place = at} {count = count} {s = s} {s' = s'} {x = x} {why = why} d q same) =
-      inl (unmoved _ s' p same (record { port = off_read s.port x p.memory at count why inside.0 ties.memory_is d; tree_is = ties.tree_is; input_is = ties.input_is; console_is = ties.console_is; kept_is = ties.kept_is }))
+  refused e p h shape inside ties
+      (read_stopped {place = at} {count = count} {s = s} {s' = s'} {x = x} {why = why} d q same) =
+      inl (unmoved _ s' p same (record {
+        port = off_read s.port x p.memory at count why inside.0 ties.memory_is d;
+        tree_is = ties.tree_is;
+        input_is = ties.input_is;
+        console_is = ties.console_is;
+        kept_is = ties.kept_is;
+      }))
   refused e p h shape inside ties (has_taken {count = count} {k = k} {s = s} {i = i} {bytes = bytes} d next) =
       let got = on_take s.input i p.contents.input count bytes ties.input_is d in
       let there = record p { contents = record p.contents { input = drop count p.contents.input } } in
-      let l = closes-late e there h (shape.1 bytes) (inside bytes got.2) (record { memory_is = ties.memory_is; tree_is = ties.tree_is; input_is = got.1; console_is = ties.console_is; kept_is = ties.kept_is }) next in
+      let l = closes-late e there h (shape.1 bytes) (inside bytes got.2)
+      (record {
+        memory_is = ties.memory_is;
+        tree_is = ties.tree_is;
+        input_is = got.1;
+        console_is = ties.console_is;
+        kept_is = ties.kept_is;
+      }) next in
       inr (l.0, ap (λ b. run m (k b) there) (sym got.0) ∙ l.1, l.2, l.3)
   refused e p h shape inside ties (take_stopped {count = count} {s = s} {s' = s'} {i = i} {why = why} d q same) =
-      inl (unmoved _ s' p same (record { port = held s.port p.memory ties.memory_is; tree_is = ties.tree_is; input_is = off_take s.input i p.contents.input count why ties.input_is d; console_is = ties.console_is; kept_is = ties.kept_is }))
+      inl (unmoved _ s' p same (record {
+        port = held s.port p.memory ties.memory_is;
+        tree_is = ties.tree_is;
+        input_is = off_take s.input i p.contents.input count why ties.input_is d;
+        console_is =
+            ties.console_is;
+        kept_is = ties.kept_is;
+      }))
   refused e p h shape inside ties (has_put {bytes = bytes} {s = s} {c = c} d next) =
       let there = record p { contents = record p.contents { console = p.contents.console ++ bytes } } in
-      let l = closes-late e there h shape.1 inside (record { memory_is = ties.memory_is; tree_is = ties.tree_is; input_is = ties.input_is; console_is = on_put s.console c p.contents.console bytes ties.console_is d; kept_is = ties.kept_is }) next in
+      let l = closes-late e there h shape.1 inside
+      (record {
+        memory_is = ties.memory_is;
+        tree_is = ties.tree_is;
+        input_is = ties.input_is;
+        console_is = on_put s.console c p.contents.console bytes ties.console_is d;
+        kept_is = ties.kept_is;
+      }) next in
       inr l
   refused e p h shape inside ties (put_stopped {bytes = bytes} {s = s} {s' = s'} {c = c} {why = why} d q same) =
-      inl (unmoved _ s' p same (record { port = held s.port p.memory ties.memory_is; tree_is = ties.tree_is; input_is = ties.input_is; console_is = off_put s.console c p.contents.console bytes why ties.console_is d; kept_is = ties.kept_is }))
-  refused e p h shape inside ties (has_asked {q = q} {stop = stop} {k = k} {s = s} {s' = s'} {f = f} {reply = reply} d next) =
+      inl (unmoved _ s' p same (record {
+        port = held s.port p.memory ties.memory_is;
+        tree_is = ties.tree_is;
+        input_is = ties.input_is;
+        console_is =
+            off_put s.console c p.contents.console bytes why ties.console_is d;
+        kept_is = ties.kept_is;
+      }))
+  refused e p h shape inside ties
+      (has_asked {q = q} {stop = stop} {k = k} {s = s} {s' = s'} {f = f} {reply = reply} d next) =
       let got = on_ask s.folder f p.contents.tree q reply ties.tree_is d in
       let there = record p { contents = record p.contents { tree = got.0 } } in
-      let ties2 : Ties memory tree input console (record s { folder = f }) there = record { memory_is = ties.memory_is; tree_is = got.2; input_is = ties.input_is; console_is = ties.console_is; kept_is = ties.kept_is } in
-      let same : run m (Ask q stop k) p ≡ run m (k reply) there = ap (λ row. on_row row (λ reply tree. run m (k reply) (record p { contents = record p.contents { tree = tree } }))) got.1 in
-      elim (is_quiet q) as (λ b. is_quiet q ≡ b → either b ((r : Reply q) → Shaped z marks answers (k r)) ((r : Reply q) → Closes z marks answers (k r)) → Before s' p ⊎ Late (Ask q stop k) p s') [
+      let ties2 : Ties memory tree input console (record s { folder = f }) there =
+      record {
+        memory_is = ties.memory_is;
+        tree_is = got.2;
+        input_is = ties.input_is;
+        console_is = ties.console_is;
+        kept_is = ties.kept_is;
+      } in
+      let same : run m (Ask q stop k) p ≡ run m (k reply) there =
+      ap (λ row. on_row row (λ reply tree. run m (k reply)
+      (record p { contents = record p.contents { tree = tree } }))) got.1 in
+      elim (is_quiet q) as (λ b. is_quiet q ≡ b
+      → either b ((r : Reply q) → Shaped z marks answers (k r)) ((r : Reply q) → Closes z marks answers (k r))
+      → Before s' p ⊎ Late (Ask q stop k) p s') [
         | true ↦ λ silent more. elim (refused e there h (more reply) (inside reply got.3) ties2 next) [
           | inl b ↦ inl (b.0, joins p.contents.tree got.0 b.0 (quiet q p.contents.tree _ silent got.1) b.1, b.2)
           | inr l ↦ inr (l.0, same ∙ l.1, l.2, l.3)
         ]
-        | false ↦ λ loud more. let l = closes-late e there h (more reply) (inside reply got.3) ties2 next in inr (l.0, same ∙ l.1, l.2, l.3)
+        | false ↦ λ loud more. let l = closes-late e there h (more reply) (inside reply got.3) ties2 next in inr
+            (l.0, same ∙ l.1, l.2, l.3)
       ] refl shape.1
   refused e p h shape inside ties (ask_stopped {q = q} {s = s} {s' = s'} {f = f} {why = why} d w same) =
-      inl (unmoved _ s' p same (record { port = held s.port p.memory ties.memory_is; tree_is = off_ask s.folder f p.contents.tree q why ties.tree_is d; input_is = ties.input_is; console_is = ties.console_is; kept_is = ties.kept_is }))
+      inl (unmoved _ s' p same (record {
+        port = held s.port p.memory ties.memory_is;
+        tree_is = off_ask s.folder f p.contents.tree q why ties.tree_is d;
+        input_is = ties.input_is;
+        console_is =
+            ties.console_is;
+        kept_is = ties.kept_is;
+      }))
   refused e p h shape inside ties (noted {g = g} n next) =
-      inr (ends-late e (record p { kept = g p.kept }) h shape.1 inside (record { memory_is = ties.memory_is; tree_is = ties.tree_is; input_is = ties.input_is; console_is = ties.console_is; kept_is = n ∙ ap g ties.kept_is }) next)
+      inr (ends-late e (record p { kept = g p.kept }) h shape.1 inside
+      (record {
+        memory_is = ties.memory_is;
+        tree_is = ties.tree_is;
+        input_is = ties.input_is;
+        console_is = ties.console_is;
+        kept_is = n ∙ ap g ties.kept_is;
+      }) next)
   refused e p h shape inside ties (ended _ _) = absurd shape
   refused e p h shape inside ties (failed _ _) = absurd shape
   refused e p h shape inside ties (has_written _ _) = absurd shape

@@ -2,7 +2,8 @@
 use Rattle.std.specs.Prelude.{◌≡◌, ◌≤◌, ⊤, ℕ, List, ◌++◌, take, drop, length, Option, Some, None}
 use Rattle.folder_tree.specs.Tree.{Tree}
 use Rattle.folder_tree.specs.TreeOps.{After}
-use Rattle.host_text.specs.Text.{Query, Reply, row_of, Kind, OpenFile, Create, Release, Size, ReadAt, WriteAt, SetSize, Remove, MakeDir, RemoveDir, Text, Done, Fail, Read, Write, Take, Put, Ask, Note, Look}
+use Rattle.host_text.specs.Text.{Query, Reply, row_of, Kind, OpenFile, Create, Release, Size, ReadAt, WriteAt, SetSize}
+use Rattle.host_text.specs.Text.{Remove, MakeDir, RemoveDir, Text, Done, Fail, Read, Write, Take, Put, Ask, Note, Look}
 use Rattle.host_text.specs.Played.{At}
 use Rattle.host_text.specs.World.{Contents}
 
@@ -33,14 +34,18 @@ run m (Done a) p = Some (record { answer = a; place = p })
 run m (Fail e) p = None
 run m (Read at count stop k) p = run m (k (m.get p.memory at count)) p
 run m (Write at bytes stop k) p = run m k (record p { memory = m.set p.memory at bytes })
-run m (Take count stop k) p = run m (k (take count p.contents.input)) (record p { contents = record p.contents { input = drop count p.contents.input } })
-run m (Put bytes stop k) p = run m k (record p { contents = record p.contents { console = p.contents.console ++ bytes } })
-run m (Ask q stop k) p = on_row (row_of q p.contents.tree) (λ reply tree. run m (k reply) (record p { contents = record p.contents { tree = tree } }))
+run m (Take count stop k) p = run m (k (take count p.contents.input))
+    (record p { contents = record p.contents { input = drop count p.contents.input } })
+run m (Put bytes stop k) p = run m k
+    (record p { contents = record p.contents { console = p.contents.console ++ bytes } })
+run m (Ask q stop k) p = on_row (row_of q p.contents.tree)
+    (λ reply tree. run m (k reply) (record p { contents = record p.contents { tree = tree } }))
 run m (Note g k) p = run m k (record p { kept = g p.kept })
 run m (Look k) p = run m (k p.kept) p
 
 -- where an object stands and where what it tells stands
-pub record Ties {X F I C M H : Type 0} (memory : X → M → Type 0) (tree : F → Tree → Type 0) (input : I → List ℕ → Type 0) (console : C → List ℕ → Type 0) (s : At X F I C H) (p : Place M H) : Type 0 where
+pub record Ties {X F I C M H : Type 0} (memory : X → M → Type 0) (tree : F → Tree → Type 0)
+    (input : I → List ℕ → Type 0) (console : C → List ℕ → Type 0) (s : At X F I C H) (p : Place M H) : Type 0 where
   pub memory_is : memory s.port p.memory
   pub tree_is : tree s.folder p.contents.tree
   pub input_is : input s.input p.contents.input

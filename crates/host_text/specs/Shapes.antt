@@ -1,13 +1,16 @@
 -- The shape of a call's text, and what follows from it at every refusal.
-use Rattle.std.specs.Prelude.{◌≡◌, ◌⊎◌, ⊤, ℕ, Bool, true, false, List, ◌++◌, take, drop, Option, Some, None, Result, Ok, Err, refl, if◌then◌else◌}
+use Rattle.std.specs.Prelude.{◌≡◌, ◌⊎◌, ⊤, ℕ, Bool, true, false, List, ◌++◌, take, drop, Option, Some, None, Result, Ok}
+use Rattle.std.specs.Prelude.{Err, refl, if◌then◌else◌}
 use Rattle.std.proofs.Common.{sym, subst, ap, ◌∙◌, inl, inr}
 use Rattle.chunk_memory.specs.declared.stops.MemStop.{MemStop}
 use Rattle.fe_base.specs.declared.outside.Failed.{Failed}
 use Rattle.folder_tree.specs.declared.folder.FolderStop.{FolderStop}
 use Rattle.folder_tree.specs.TreeOps.{Row}
 use Rattle.folder_tree.specs.Tree.{Tree, files_of}
-use Rattle.host_text.specs.Text.{Query, Reply, row_of, Kind, OpenFile, Create, Release, Size, ReadAt, WriteAt, SetSize, Remove, MakeDir, RemoveDir, Text, Done, Fail, Read, Write, Take, Put, Ask, Note, Look}
-use Rattle.host_text.specs.Played.{Acts, At, Played, ended, failed, has_read, read_stopped, has_written, write_stopped, has_taken, take_stopped, has_put, put_stopped, has_asked, ask_stopped, noted, looked}
+use Rattle.host_text.specs.Text.{Query, Reply, row_of, Kind, OpenFile, Create, Release, Size, ReadAt, WriteAt, SetSize}
+use Rattle.host_text.specs.Text.{Remove, MakeDir, RemoveDir, Text, Done, Fail, Read, Write, Take, Put, Ask, Note, Look}
+use Rattle.host_text.specs.Played.{Acts, At, Played, ended, failed, has_read, read_stopped, has_written, write_stopped}
+use Rattle.host_text.specs.Played.{has_taken, take_stopped, has_put, put_stopped, has_asked, ask_stopped, noted, looked}
 
 -- the faults of a host, by what was refused
 pub record Stops (E : Type 0) : Type 0 where
@@ -72,7 +75,8 @@ module _ {H A E : Type 0} (z : Stops E) (marks : (H → H) → Type 0) (answers 
   Closes (Note g k) = marks g × Ends k
   Closes (Look k) = ⊥
 
-  -- ranges are read and quiet calls are made; directly after the one call that changes something, or where the answer is decided, the call acts
+  -- ranges are read and quiet calls are made; directly after the one call that changes something, or where the
+  -- answer is decided, the call acts
   abbrev pub Shaped : Text H A E → Type 0
   Shaped (Done a) = ⊥
   Shaped (Fail e) = ⊥
@@ -80,7 +84,8 @@ module _ {H A E : Type 0} (z : Stops E) (marks : (H → H) → Type 0) (answers 
   Shaped (Write at bytes stop k) = ⊥
   Shaped (Take count stop k) = (stop ≡ z.input) × ((bytes : List ℕ) → Closes (k bytes))
   Shaped (Put bytes stop k) = (stop ≡ z.console) × Closes k
-  Shaped (Ask q stop k) = (stop ≡ z.folder) × either (is_quiet q) ((reply : Reply q) → Shaped (k reply)) ((reply : Reply q) → Closes (k reply))
+  Shaped (Ask q stop k) = (stop ≡ z.folder)
+      × either (is_quiet q) ((reply : Reply q) → Shaped (k reply)) ((reply : Reply q) → Closes (k reply))
   Shaped (Note g k) = marks g × Ends k
   Shaped (Look k) = ⊥
 
@@ -109,7 +114,8 @@ module _ {X F I C H A E : Type 0} (o : Acts X F I C) (z : Stops E) (marks : (H �
     pub marked : (g : H → H) × marks g × (s'.kept ≡ g s.kept)
 
   -- while only guest memory is written, a refusal is the port's and leaves all else
-  ends-fault : {t : Text H A E} {s s' : At X F I C H} {r : Result A E} (e : E) → r ≡ Err e → Ends z marks answers t → Played o t s r s'
+  ends-fault : {t : Text H A E} {s s' : At X F I C H} {r : Result A E} (e : E) → r ≡ Err e → Ends z marks answers t
+      → Played o t s r s'
       → ((why : MemStop) × (e ≡ z.port why)) × (s'.kept ≡ s.kept)
   ends-fault e h shape (ended p same) = let no : ⊥ = cc in absurd no
   ends-fault e h shape (has_written d next) = ends-fault e h shape.1 next
@@ -128,7 +134,8 @@ module _ {X F I C H A E : Type 0} (o : Acts X F I C) (z : Stops E) (marks : (H �
   ends-fault e h shape (noted _ _) = absurd shape
   ends-fault e h shape (looked _) = absurd shape
 
-  closes-fault : {t : Text H A E} {s s' : At X F I C H} {r : Result A E} (e : E) → r ≡ Err e → Closes z marks answers t → Played o t s r s' → Acted s s' e
+  closes-fault : {t : Text H A E} {s s' : At X F I C H} {r : Result A E} (e : E) → r ≡ Err e → Closes z marks answers t
+      → Played o t s r s' → Acted s s' e
   closes-fault e h shape (noted {g = g} n next) =
       let rest = ends-fault e h shape.1 next in
       record { port = rest.0; marked = (g, shape.0, rest.1 ∙ n) }
@@ -147,7 +154,8 @@ module _ {X F I C H A E : Type 0} (o : Acts X F I C) (z : Stops E) (marks : (H �
   closes-fault e h shape (looked _) = absurd shape
 
   -- a refused call has changed nothing, or it had acted and the port refused a write of the guest
-  pub shaped-fault : {t : Text H A E} {s s' : At X F I C H} {r : Result A E} (e : E) → r ≡ Err e → Shaped z marks answers t → Played o t s r s' → Unchanged s s' ⊎ Acted s s' e
+  pub shaped-fault : {t : Text H A E} {s s' : At X F I C H} {r : Result A E} (e : E) → r ≡ Err e
+      → Shaped z marks answers t → Played o t s r s' → Unchanged s s' ⊎ Acted s s' e
   shaped-fault e h shape (has_read d next) = elim (shaped-fault e h (shape.1 _) next) [
     | inl u ↦ inl (record { folder = u.folder; input = u.input; console = u.console; kept = u.kept })
     | inr a ↦ inr (record { port = a.port; marked = a.marked })
@@ -155,26 +163,51 @@ module _ {X F I C H A E : Type 0} (o : Acts X F I C) (z : Stops E) (marks : (H �
   shaped-fault e h shape (read_stopped {s = s} d p same) =
       let P : At X F I C H → Type 0 = λ m. Unchanged s m in
       inl (subst P (sym same) (record { folder = still _; input = untaken _; console = unput _; kept = refl }))
-  shaped-fault e h shape (has_taken d next) = let a = closes-fault e h (shape.1 _) next in inr (record { port = a.port; marked = a.marked })
+  shaped-fault e h shape (has_taken d next) = let a =
+      closes-fault e h (shape.1 _) next in inr (record { port = a.port; marked = a.marked })
   shaped-fault e h shape (take_stopped {count = count} {s = s} {i = i} {why = why} d p same) =
       let P : At X F I C H → Type 0 = λ m. Unchanged s m in
-      inl (subst P (sym same) (record { folder = still _; input = takes s.input i count why d; console = unput _; kept = refl }))
-  shaped-fault e h shape (has_put d next) = let a = closes-fault e h shape.1 next in inr (record { port = a.port; marked = a.marked })
+      inl (subst P (sym same) (record {
+        folder = still _;
+        input = takes s.input i count why d;
+        console = unput _;
+        kept = refl;
+      }))
+  shaped-fault e h shape (has_put d next) = let a =
+      closes-fault e h shape.1 next in inr (record { port = a.port; marked = a.marked })
   shaped-fault e h shape (put_stopped {bytes = bytes} {s = s} {c = c} {why = why} d p same) =
       let P : At X F I C H → Type 0 = λ m. Unchanged s m in
-      inl (subst P (sym same) (record { folder = still _; input = untaken _; console = puts s.console c bytes why d; kept = refl }))
+      inl (subst P (sym same) (record {
+        folder = still _;
+        input = untaken _;
+        console = puts s.console c bytes why d;
+        kept = refl;
+      }))
   shaped-fault e h shape (has_asked {q = q} {k = k} {s = s} {s' = s'} {f = f} {reply = reply} d next) =
       let there = record s { folder = f } in
-      elim (is_quiet q) as (λ b. is_quiet q ≡ b → either b ((r : Reply q) → Shaped z marks answers (k r)) ((r : Reply q) → Closes z marks answers (k r)) → Unchanged s s' ⊎ Acted s s' e) [
+      elim (is_quiet q) as (λ b. is_quiet q ≡ b
+      → either b ((r : Reply q) → Shaped z marks answers (k r)) ((r : Reply q) → Closes z marks answers (k r))
+      → Unchanged s s' ⊎ Acted s s' e) [
         | true ↦ λ quiet more. elim (shaped-fault e h (more reply) next) [
-          | inl u ↦ inl (record { folder = joins _ _ _ (asks q s.folder f (Ok reply) quiet d) u.folder; input = u.input; console = u.console; kept = u.kept })
+          | inl u ↦ inl (record {
+            folder = joins _ _ _ (asks q s.folder f (Ok reply) quiet d) u.folder;
+            input = u.input;
+            console = u.console;
+            kept = u.kept;
+          })
           | inr a ↦ inr (record { port = a.port; marked = a.marked })
         ]
-        | false ↦ λ loud more. let a = closes-fault e h (more reply) next in inr (record { port = a.port; marked = a.marked })
+        | false ↦ λ loud more. let a = closes-fault e h (more reply) next in inr
+            (record { port = a.port; marked = a.marked })
       ] refl shape.1
   shaped-fault e h shape (ask_stopped {q = q} {s = s} {f = f} {why = why} d p same) =
       let P : At X F I C H → Type 0 = λ m. Unchanged s m in
-      inl (subst P (sym same) (record { folder = refuses q s.folder f why d; input = untaken _; console = unput _; kept = refl }))
+      inl (subst P (sym same) (record {
+        folder = refuses q s.folder f why d;
+        input = untaken _;
+        console = unput _;
+        kept = refl;
+      }))
   shaped-fault e h shape (noted {g = g} n next) =
       let rest = ends-fault e h shape.1 next in
       inr (record { port = rest.0; marked = (g, shape.0, rest.1 ∙ n) })

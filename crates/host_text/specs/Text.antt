@@ -2,7 +2,8 @@
 use Rattle.std.specs.Prelude.{ℕ, Bool, List}
 use Rattle.chunk_memory.specs.declared.stops.MemStop.{MemStop}
 use Rattle.folder_tree.specs.Paths.{Parts}
-use Rattle.folder_tree.specs.TreeOps.{Row, kind_row, open_row, create_row, release_row, size_row, read_row, write_row, set_size_row, remove_row, make_dir_row, remove_dir_row}
+use Rattle.folder_tree.specs.TreeOps.{Row, kind_row, open_row, create_row, release_row, size_row, read_row, write_row}
+use Rattle.folder_tree.specs.TreeOps.{set_size_row, remove_row, make_dir_row, remove_dir_row}
 use Rattle.folder_tree.specs.declared.folder.FolderStop.{FolderStop}
 use Rattle.folder_tree.specs.declared.folder.PathKind.{PathKind}
 
@@ -48,7 +49,8 @@ row_of (Remove path) = remove_row path
 row_of (MakeDir path) = make_dir_row path
 row_of (RemoveDir path) = remove_dir_row path
 
--- a text over what the host keeps, which ends with an answer or a fault: ranges of guest memory are read and written, the outside is asked, and the host notes what it keeps from now on
+-- a text over what the host keeps, which ends with an answer or a fault: ranges of guest memory are read and
+-- written, the outside is asked, and the host notes what it keeps from now on
 pub data Text (H A E : Type 0) : Type 0 where
   Done : A → Text H A E
   Fail : E → Text H A E

@@ -15,6 +15,7 @@ pub record World : Type 0 where
   pub contents : Contents
   pub numbers : List Open
 
--- the open numbers that a program starts with: 0 is the input, 1 and 2 are the console, and nothing stands at the 61 others
+-- the open numbers that a program starts with: 0 is the input, 1 and 2 are the console, and nothing stands at the 61
+-- others
 abbrev pub first_numbers : List Open
 first_numbers = Input ∷ Console ∷ Console ∷ replicate 61 Closed

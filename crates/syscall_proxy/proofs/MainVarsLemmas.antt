@@ -1,5 +1,6 @@
 -- The pointers of main vars, which go on modulo 2^64.
-use Rattle.std.proofs.Common.{◌≡◌, ℕ, zero, suc, ◌+◌, ◌*◌, ◌-◌, ◌<◌, ◌≤◌, ◌/◌, ◌%◌, ◌^◌, List, [], ◌∷◌, ◌++◌, length, drop, Some, refl, ap, sym, subst, ◌∙◌, arith, append_assoc, length-append}
+use Rattle.std.proofs.Common.{◌≡◌, ℕ, zero, suc, ◌+◌, ◌*◌, ◌-◌, ◌<◌, ◌≤◌, ◌/◌, ◌%◌, ◌^◌, List, [], ◌∷◌, ◌++◌, length}
+use Rattle.std.proofs.Common.{drop, Some, refl, ap, sym, subst, ◌∙◌, arith, append_assoc, length-append}
 use Rattle.std.specs.Prelude.{slice_get}
 use Rattle.elf_loader.proofs.Texts.{drop-got, pointers_preserved}
 use Rattle.elf_loader.specs.MainVars.{dword, pointers, texts_with_nuls}
@@ -25,14 +26,17 @@ pub pointers-same : (m n : ℕ) (args : List (List ℕ)) → m % 2 ^ 64 ≡ n % 
 pointers-same m n [] same = refl
 pointers-same m n (text ∷ texts) same =
     let next : (m + (length text + 1)) % 2 ^ 64 ≡ (n + (length text + 1)) % 2 ^ 64 = omega (arith, same) in
-    ap (λ bytes. bytes ++ pointers (m + (length text + 1)) texts) (dword-same m n same) ∙ ap (λ bytes. dword n ++ bytes) (pointers-same (m + (length text + 1)) (n + (length text + 1)) texts next)
+    ap (λ bytes. bytes ++ pointers (m + (length text + 1)) texts) (dword-same m n same)
+    ∙ ap (λ bytes. dword n ++ bytes) (pointers-same (m + (length text + 1)) (n + (length text + 1)) texts next)
 
 -- one pointer more
-pub pointers_wrapped : (args : List (List ℕ)) (i at wrapped : ℕ) (text old new all : List ℕ) → slice_get args i ≡ Some text → wrapped ≡ (at + (length text + 1)) % 2 ^ 64
+pub pointers_wrapped : (args : List (List ℕ)) (i at wrapped : ℕ) (text old new all : List ℕ) → slice_get args i
+    ≡ Some text → wrapped ≡ (at + (length text + 1)) % 2 ^ 64
     → new ≡ old ++ dword at → old ++ pointers at (drop i args) ≡ all → new ++ pointers wrapped (drop (i + 1) args) ≡ all
 pointers_wrapped args i at wrapped text old new all h w e inv =
     let same : wrapped % 2 ^ 64 ≡ (at + (length text + 1)) % 2 ^ 64 = omega (arith, w) in
-    ap (λ bytes. new ++ bytes) (pointers-same wrapped (at + (length text + 1)) (drop (i + 1) args) same) ∙ pointers_preserved args i at text old new all h e inv
+    ap (λ bytes. new ++ bytes) (pointers-same wrapped (at + (length text + 1)) (drop (i + 1) args) same)
+    ∙ pointers_preserved args i at text old new all h e inv
 
 -- ---- how long they are
 
@@ -43,24 +47,31 @@ length-pointers : (at : ℕ) (args : List (List ℕ)) → length (pointers at ar
 length-pointers at [] = refl
 length-pointers at (text ∷ texts) = let rest = length-pointers (at + (length text + 1)) texts in omega (arith, rest)
 
-pub pointers-room : (new old : List ℕ) (at : ℕ) (args : List (List ℕ)) → new ≡ old ++ pointers at args → length new ≡ length old + 8 * length args
-pointers-room new old at args e = ap length e ∙ length-append old (pointers at args) ∙ ap (λ n. length old + n) (length-pointers at args)
+pub pointers-room : (new old : List ℕ) (at : ℕ) (args : List (List ℕ)) → new ≡ old ++ pointers at args → length new
+    ≡ length old + 8 * length args
+pointers-room new old at args e =
+    ap length e ∙ length-append old (pointers at args) ∙ ap (λ n. length old + n) (length-pointers at args)
 
 -- ---- all of them
 
-pub vars-joined : (held behind first second whole : List ℕ) (at place : ℕ) (args : List (List ℕ)) → held ≡ dword (length args) → behind ≡ held ++ pointers at args → at % 2 ^ 64 ≡ place % 2 ^ 64
-    → first ≡ behind ++ dword 0 → second ≡ first ++ dword 0 → whole ≡ second ++ texts_with_nuls args → whole ≡ (((dword (length args) ++ pointers place args) ++ dword 0) ++ dword 0) ++ texts_with_nuls args
+pub vars-joined : (held behind first second whole : List ℕ) (at place : ℕ) (args : List (List ℕ)) → held
+    ≡ dword (length args) → behind ≡ held ++ pointers at args → at % 2 ^ 64 ≡ place % 2 ^ 64
+    → first ≡ behind ++ dword 0 → second ≡ first ++ dword 0 → whole ≡ second ++ texts_with_nuls args → whole
+    ≡ (((dword (length args) ++ pointers place args) ++ dword 0) ++ dword 0) ++ texts_with_nuls args
 vars-joined held behind first second whole at place args a b same c d e =
     let n = dword (length args) in
     let zero_word = dword 0 in
     let texts = texts_with_nuls args in
-    let front : behind ≡ n ++ pointers place args = b ∙ ap (λ x. x ++ pointers at args) a ∙ ap (λ x. n ++ x) (pointers-same at place args same) in
+    let front : behind ≡ n ++ pointers place args =
+    b ∙ ap (λ x. x ++ pointers at args) a ∙ ap (λ x. n ++ x) (pointers-same at place args same) in
     let one : first ≡ (n ++ pointers place args) ++ zero_word = c ∙ ap (λ x. x ++ zero_word) front in
     let two : second ≡ ((n ++ pointers place args) ++ zero_word) ++ zero_word = d ∙ ap (λ x. x ++ zero_word) one in
     e ∙ ap (λ x. x ++ texts) two
 
 -- ---- a copy of texts
 
-pub one_copied : (texts : List (List ℕ)) (i : ℕ) (text : List ℕ) (old new : List (List ℕ)) → slice_get texts i ≡ Some text → new ≡ old ++ text ∷ [] → old ++ drop i texts ≡ texts → new ++ drop (i + 1) texts ≡ texts
+pub one_copied : (texts : List (List ℕ)) (i : ℕ) (text : List ℕ) (old new : List (List ℕ)) → slice_get texts i
+    ≡ Some text → new ≡ old ++ text ∷ [] → old ++ drop i texts ≡ texts → new ++ drop (i + 1) texts ≡ texts
 one_copied texts i text old new h e inv =
-    ap (λ front. front ++ drop (i + 1) texts) e ∙ append_assoc old (text ∷ []) (drop (i + 1) texts) ∙ ap (λ rest. old ++ rest) (sym (drop-got texts i text h)) ∙ inv
+    ap (λ front. front ++ drop (i + 1) texts) e ∙ append_assoc old (text ∷ []) (drop (i + 1) texts)
+    ∙ ap (λ rest. old ++ rest) (sym (drop-got texts i text h)) ∙ inv

@@ -20,7 +20,8 @@ abbrev pub read_file : ℕ → OpenFile → ℕ → ℕ → Row
 read_file fd file buffer count =
     if not file.reads then refuse EBADF
     else if count == 0 then done 0
-    else Ask (ReadAt file.number file.position count) folder_fault (λ bytes. Note (opens fd (placed file (moved file.position (length bytes)))) (give buffer bytes))
+    else Ask (ReadAt file.number file.position count) folder_fault
+    (λ bytes. Note (opens fd (placed file (moved file.position (length bytes)))) (give buffer bytes))
 
 -- read of what stands at a number
 abbrev pub read_open : Open → ℕ → ℕ → ℕ → Row
@@ -35,13 +36,15 @@ read_row numbers fd buffer count = read_open (open_at numbers fd) fd buffer coun
 
 -- write to the console
 abbrev pub write_console : ℕ → ℕ → Row
-write_console buffer count = if count == 0 then done 0 else Read buffer count Port (λ bytes. Put bytes ConsoleFault (done count))
+write_console buffer count = if count == 0 then done 0 else Read buffer count Port
+    (λ bytes. Put bytes ConsoleFault (done count))
 
 -- the guest's bytes are read and written to a file at a place, which ends the call
 abbrev pub write_bytes : OpenFile → ℕ → ℕ → ℕ → (Kept → Kept) → Row
 write_bytes file place buffer count notes =
     if nat_lt (guest_file_limit - count) place then refuse EFBIG
-    else Read buffer count Port (λ bytes. Ask (WriteAt file.number place bytes) folder_fault (λ all. Note notes (Done (Value count))))
+    else Read buffer count Port (λ bytes. Ask (WriteAt file.number place bytes) folder_fault
+    (λ all. Note notes (Done (Value count))))
 
 -- write to a file at a place, behind which the file's place is then
 abbrev pub write_place : ℕ → OpenFile → ℕ → ℕ → ℕ → Row

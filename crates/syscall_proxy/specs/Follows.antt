@@ -26,6 +26,8 @@ pub record Same {P F I C : Type 0} (o o' : Objects P F I C) : Type 0 where
   pub console : o'.console.ghost_name ≡ o.console.ghost_name
 
 -- the host followed this text over the objects that it was lent, whatever waits in its mailbox
-abbrev pub Follows : {P F I C : Type 0} → port.Ghosts P → folder.Ghosts F → source.Ghosts I → sink.Ghosts C → Row → Objects P F I C → Calls → Result CallAnswer CallFault → Objects P F I C → Calls → Type 0
+abbrev pub Follows : {P F I C : Type 0} → port.Ghosts P → folder.Ghosts F → source.Ghosts I → sink.Ghosts C → Row
+    → Objects P F I C → Calls → Result CallAnswer CallFault → Objects P F I C → Calls → Type 0
 Follows p f i c text o k result o' k' =
-    (waiting : List ℕ) → Played (acts p f i c) text (here o (kept k.numbers k.acted waiting)) result (here o' (kept k'.numbers k'.acted waiting))
+    (waiting : List ℕ) → Played (acts p f i c) text (here o (kept k.numbers k.acted waiting)) result
+    (here o' (kept k'.numbers k'.acted waiting))

@@ -11,6 +11,7 @@ pub mod PathRows
 pub mod RecordRows
 pub mod CallTable
 pub mod Worlds
+pub mod Streams
 pub mod RowShapes
 -- What the clauses of the code cite.
 pub mod Follows
@@ -23,5 +24,7 @@ pub mod NumberLaws
 pub mod PathLaws
 pub mod RecordLaws
 pub mod CallLaws
+pub mod StreamRows
 pub mod HostLaws
+pub mod StreamLaws
 pub mod HostRow

@@ -1,5 +1,6 @@
 -- The rows that look at an open number or move its place: close, lseek and ftruncate.
-use Rattle.std.specs.Prelude.{ℕ, ◌+◌, ◌-◌, ◌^◌, ◌==◌, not, nat_lt, nat_le, if◌then◌else◌, true, List, Option, Some, None, slice_set}
+use Rattle.std.specs.Prelude.{ℕ, ◌+◌, ◌-◌, ◌^◌, ◌==◌, not, nat_lt, nat_le, if◌then◌else◌, true, List, Option, Some}
+use Rattle.std.specs.Prelude.{None, slice_set}
 use Rattle.fe_base.specs.ErrorNumbers.{error_number}
 use Rattle.fe_base.specs.Limits.{guest_file_limit}
 use Rattle.fe_base.specs.declared.error_numbers.ErrNo.TheVariants.{EBADF, EFBIG, EINVAL, ESPIPE}

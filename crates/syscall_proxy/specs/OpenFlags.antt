@@ -1,4 +1,5 @@
--- The flags of openat (Linux, include/uapi/asm-generic/fcntl.h): the low two bits are the access, 0 to read (O_RDONLY), 1 to
+-- The flags of openat (Linux, include/uapi/asm-generic/fcntl.h): the low two bits are the access, 0 to read
+-- (O_RDONLY), 1 to
 -- write (O_WRONLY), 2 to do both (O_RDWR); 3 is none of them.
 use Rattle.std.specs.Prelude.{ℕ, Bool, bit_and, not, ◌==◌, ◌&&◌, ◌||◌}
 

@@ -1,13 +1,17 @@
 -- The rows that take a path: mkdirat, unlinkat, faccessat and openat.
-use Rattle.std.specs.Prelude.{ℕ, ◌-◌, ◌^◌, Bool, true, false, ◌==◌, ◌||◌, bit_and, position, nat_lt, if◌then◌else◌, List, [], ◌∷◌, ◌++◌, Option, Some, None, Result, Ok, Err}
+use Rattle.std.specs.Prelude.{ℕ, ◌-◌, ◌^◌, Bool, true, false, ◌==◌, ◌||◌, bit_and, position, nat_lt, if◌then◌else◌}
+use Rattle.std.specs.Prelude.{List, [], ◌∷◌, ◌++◌, Option, Some, None, Result, Ok, Err}
 use Rattle.fe_base.specs.ErrorNumbers.{error_number}
 use Rattle.fe_base.specs.Limits.{guest_path_limit}
 use Rattle.fe_base.specs.declared.error_numbers.ErrNo.{ErrNo}
-use Rattle.fe_base.specs.declared.error_numbers.ErrNo.TheVariants.{EINVAL, ENOENT, EEXIST, EISDIR, ENOTDIR, ENOTEMPTY, EMFILE}
+use Rattle.fe_base.specs.declared.error_numbers.ErrNo.TheVariants.{EINVAL, ENOENT, EEXIST, EISDIR, ENOTDIR, ENOTEMPTY}
+use Rattle.fe_base.specs.declared.error_numbers.ErrNo.TheVariants.{EMFILE}
 use Rattle.folder_tree.specs.Paths.{Parts}
 use Rattle.folder_tree.specs.declared.folder.PathKind.{PathKind}
-use Rattle.folder_tree.specs.declared.folder.PathKind.TheVariants.{Directory, File as PlainFile, Free, NoParent, UnderFile}
-use Rattle.host_text.specs.Text.{Done, Read, Ask, Note, Kind, OpenFile as OpenPath, Create, SetSize, MakeDir as MakeDirAt, Remove, RemoveDir}
+use Rattle.folder_tree.specs.declared.folder.PathKind.TheVariants.{Directory, File as PlainFile, Free, NoParent}
+use Rattle.folder_tree.specs.declared.folder.PathKind.TheVariants.{UnderFile}
+use Rattle.host_text.specs.Text.{Done, Read, Ask, Note, Kind, OpenFile as OpenPath, Create, SetSize}
+use Rattle.host_text.specs.Text.{MakeDir as MakeDirAt, Remove, RemoveDir}
 use Rattle.host_text.specs.declared.open_numbers.Open.{Open}
 use Rattle.host_text.specs.declared.open_numbers.Open.TheVariants.{File}
 use Rattle.host_text.specs.declared.open_numbers.OpenFile.{OpenFile}
@@ -73,7 +77,8 @@ unlink_path dir path place = Ask (Kind place) folder_fault (λ kind. unlink_kind
 
 -- unlinkat, 35; AT_REMOVEDIR is 0x200 (Linux, include/uapi/linux/fcntl.h)
 abbrev pub unlink_row : Parts → ℕ → ℕ → ℕ → ℕ → Row
-unlink_row root dirfd place count flags = at_path dirfd place count (λ path. unlink_path (has flags 0x200) path (root ++ path))
+unlink_row root dirfd place count flags =
+    at_path dirfd place count (λ path. unlink_path (has flags 0x200) path (root ++ path))
 
 -- the result of faccessat, by the kind of its path
 abbrev pub access_value : PathKind → ℕ
@@ -93,7 +98,13 @@ access_row root dirfd place count = at_path dirfd place count (λ path. access_p
 
 -- the file that openat opens: at its beginning, with the rights of the flags
 abbrev pub new_file : ℕ → ℕ → OpenFile
-new_file number flags = record { number = number; position = 0; reads = reads flags; writes = writes flags; appends = appends flags }
+new_file number flags = record {
+  number = number;
+  position = 0;
+  reads = reads flags;
+  writes = writes flags;
+  appends = appends flags;
+}
 
 -- the file stands at the open number from now on, which is the result
 abbrev pub opened : ℕ → ℕ → ℕ → Row
@@ -101,15 +112,18 @@ opened fd number flags = Note (opens fd (File (new_file number flags))) (Done (V
 
 -- openat of a free path
 abbrev pub create_file : ℕ → Parts → ℕ → Row
-create_file fd path flags = if creates flags then Ask (Create path) folder_fault (λ number. opened fd number flags) else refuse ENOENT
+create_file fd path flags = if creates flags then Ask (Create path) folder_fault
+    (λ number. opened fd number flags) else refuse ENOENT
 
 -- a file that was opened loses its bytes, if the flags say so
 abbrev pub cut_file : ℕ → ℕ → ℕ → Row
-cut_file fd number flags = if cuts flags then Ask (SetSize number 0) folder_fault (λ all. opened fd number flags) else opened fd number flags
+cut_file fd number flags = if cuts flags then Ask (SetSize number 0) folder_fault
+    (λ all. opened fd number flags) else opened fd number flags
 
 -- openat of a file
 abbrev pub open_found : ℕ → Parts → ℕ → Row
-open_found fd path flags = if wants_new flags then refuse EEXIST else Ask (OpenPath path) folder_fault (λ number. cut_file fd number flags)
+open_found fd path flags = if wants_new flags then refuse EEXIST else Ask (OpenPath path) folder_fault
+    (λ number. cut_file fd number flags)
 
 -- the result of openat of a directory
 abbrev pub directory_value : ℕ → ℕ
@@ -134,7 +148,8 @@ open_path numbers path flags = if has flags 3 then refuse EINVAL else open_free 
 
 -- openat, 56
 abbrev pub open_row : List Open → Parts → ℕ → ℕ → ℕ → ℕ → Row
-open_row numbers root dirfd place count flags = at_path dirfd place count (λ path. open_path numbers (root ++ path) flags)
+open_row numbers root dirfd place count flags =
+    at_path dirfd place count (λ path. open_path numbers (root ++ path) flags)
 
 -- what a call does with the path that was named
 abbrev pub named_row : PathCall → List Open → Parts → Parts → Row

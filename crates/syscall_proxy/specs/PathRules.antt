@@ -1,5 +1,6 @@
 -- What a guest's path names, and the rules that it may break.
-use Rattle.std.specs.Prelude.{ℕ, ◌-◌, ◌^◌, ◌==◌, ◌&&◌, Bool, true, false, not, List, [], ◌∷◌, take, Option, Some, None, Result, Err, if◌then◌else◌}
+use Rattle.std.specs.Prelude.{ℕ, ◌-◌, ◌^◌, ◌==◌, ◌&&◌, Bool, true, false, not, List, [], ◌∷◌, take, Option, Some, None}
+use Rattle.std.specs.Prelude.{Result, Err, if◌then◌else◌}
 use Rattle.std.specs.List.{position}
 use Rattle.std.specs.Str.{is_utf8}
 use Rattle.fe_base.specs.declared.error_numbers.ErrNo.{ErrNo}

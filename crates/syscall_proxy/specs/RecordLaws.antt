@@ -29,7 +29,9 @@ stat_open-row (File file) buffer = (refl, λ size. give_record-row buffer (stat_
 
 -- getmainvars is a row
 pub main_vars_row-row : (args : List (List ℕ)) (buffer limit : ℕ) → IsRow (main_vars_row args buffer limit)
-main_vars_row-row args buffer limit = row-if (nat_lt limit (main_vars_length args)) (refuse ENOMEM) (give_record buffer (main_vars_text args buffer)) (done-row 0) (give_record-row buffer (main_vars_text args buffer))
+main_vars_row-row args buffer limit =
+    row-if (nat_lt limit (main_vars_length args)) (refuse ENOMEM) (give_record buffer (main_vars_text args buffer))
+    (done-row 0) (give_record-row buffer (main_vars_text args buffer))
 
 module _ (numbers : List Open) (t : Tree) (acted : Bool) (waiting : List ℕ) (w : IsWorldOf numbers t) where
   abbrev here : Kept
@@ -39,24 +41,30 @@ module _ (numbers : List Open) (t : Tree) (acted : Bool) (waiting : List ℕ) (w
   give_record-leads buffer bytes = (omega arith, w)
 
   -- fstat ends well
-  pub stat_open-leads : (fd buffer : ℕ) (stands : Open) → open_at numbers fd ≡ stands → On (stat_open stands buffer) t here
+  pub stat_open-leads : (fd buffer : ℕ) (stands : Open) → open_at numbers fd ≡ stands
+      → On (stat_open stands buffer) t here
   stat_open-leads fd buffer Closed e = on-refuse EBADF t here w
   stat_open-leads fd buffer Input e = give_record-leads buffer (stat_record device_mode 0)
   stat_open-leads fd buffer Console e = give_record-leads buffer (stat_record device_mode 0)
   stat_open-leads fd buffer (File file) e =
-      on-size file.number folder_fault (λ size. give_record buffer (stat_record file_mode size)) t here (file-open numbers fd file t w e) (λ small. (omega arith, w)) w.tree
+      on-size file.number folder_fault (λ size. give_record buffer (stat_record file_mode size)) t here
+      (file-open numbers fd file t w e) (λ small. (omega arith, w)) w.tree
 
   -- getmainvars ends well
   pub main_vars_row-leads : (args : List (List ℕ)) (buffer limit : ℕ) → On (main_vars_row args buffer limit) t here
   main_vars_row-leads args buffer limit =
-      on-if (nat_lt limit (main_vars_length args)) (refuse ENOMEM) (give_record buffer (main_vars_text args buffer)) t here (λ z. on-refuse ENOMEM t here w) (λ z. give_record-leads buffer (main_vars_text args buffer))
+      on-if (nat_lt limit (main_vars_length args)) (refuse ENOMEM)
+      (give_record buffer (main_vars_text args buffer)) t here (λ z. on-refuse ENOMEM t here w)
+      (λ z. give_record-leads buffer (main_vars_text args buffer))
 
 -- a stat record has 128 bytes
 pub stat_record-size : (mode size : ℕ) → length (stat_record mode size) ≡ 128
 stat_record-size mode size = refl
 
-give_stat-inside : (buffer mode size : ℕ) → InUserArea buffer 128 → StaysInside (give_record buffer (stat_record mode size))
-give_stat-inside buffer mode size inside = let P : ℕ → Type 0 = λ n. InUserArea buffer n in (subst P (sym (stat_record-size mode size)) inside, tt)
+give_stat-inside : (buffer mode size : ℕ) → InUserArea buffer 128
+    → StaysInside (give_record buffer (stat_record mode size))
+give_stat-inside buffer mode size inside = let P : ℕ → Type 0 =
+    λ n. InUserArea buffer n in (subst P (sym (stat_record-size mode size)) inside, tt)
 
 -- fstat stays inside where the record does
 pub stat_open-inside : (stands : Open) (buffer : ℕ) → InUserArea buffer 128 → StaysInside (stat_open stands buffer)
@@ -66,7 +74,10 @@ stat_open-inside Console buffer inside = give_stat-inside buffer device_mode 0 i
 stat_open-inside (File file) buffer inside = λ size fits. give_stat-inside buffer file_mode size inside
 
 -- getmainvars stays inside where the main vars do
-pub main_vars_row-inside : (args : List (List ℕ)) (buffer limit : ℕ) → InUserArea buffer (main_vars_length args) → StaysInside (main_vars_row args buffer limit)
+pub main_vars_row-inside : (args : List (List ℕ)) (buffer limit : ℕ) → InUserArea buffer (main_vars_length args)
+    → StaysInside (main_vars_row args buffer limit)
 main_vars_row-inside args buffer limit inside =
     let P : ℕ → Type 0 = λ n. InUserArea buffer n in
-    inside-if (nat_lt limit (main_vars_length args)) (refuse ENOMEM) (give_record buffer (main_vars_text args buffer)) tt (subst P (sym (length-main_vars_text args buffer)) inside, tt)
+    inside-if (nat_lt limit (main_vars_length args)) (refuse ENOMEM)
+    (give_record buffer (main_vars_text args buffer)) tt
+    (subst P (sym (length-main_vars_text args buffer)) inside, tt)

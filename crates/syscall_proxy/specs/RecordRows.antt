@@ -19,7 +19,8 @@ abbrev pub stat_open : Open → ℕ → Row
 stat_open Closed buffer = refuse EBADF
 stat_open Input buffer = give_record buffer (stat_record device_mode 0)
 stat_open Console buffer = give_record buffer (stat_record device_mode 0)
-stat_open (File file) buffer = Ask (Size file.number) folder_fault (λ size. give_record buffer (stat_record file_mode size))
+stat_open (File file) buffer = Ask (Size file.number) folder_fault
+    (λ size. give_record buffer (stat_record file_mode size))
 
 -- fstat, 80
 abbrev pub stat_row : List Open → ℕ → ℕ → Row
@@ -27,4 +28,5 @@ stat_row numbers fd buffer = stat_open (open_at numbers fd) buffer
 
 -- getmainvars, 2011, which the kernel alone asks: the main vars, made for the place where they go
 abbrev pub main_vars_row : List (List ℕ) → ℕ → ℕ → Row
-main_vars_row args buffer limit = if nat_lt limit (main_vars_length args) then refuse ENOMEM else give_record buffer (main_vars_text args buffer)
+main_vars_row args buffer limit =
+    if nat_lt limit (main_vars_length args) then refuse ENOMEM else give_record buffer (main_vars_text args buffer)

@@ -28,14 +28,16 @@ abbrev pub IsResult : CallAnswer → Type 0
 IsResult (Value value) = ⊤
 IsResult (Exit status) = ⊥
 
--- a row is shaped: it acts once, behind its last call of the outside or where its answer is decided, and writes the guest
+-- a row is shaped: it acts once, behind its last call of the outside or where its answer is decided, and writes the
+-- guest
 -- behind that alone; an exit is its last act
 abbrev pub IsRow : Row → Type 0
 IsRow t = Shaped stops Marks IsResult t
 
 -- in a world a row ends well, with these open numbers: each of its calls suits, and it leads to a world
 abbrev pub LeadsOn : List Open → Row → Type 0
-LeadsOn numbers row = (t : Tree) (acted : Bool) (waiting : List ℕ) → IsWorldOf numbers t → Leads EndsWell row t (kept numbers acted waiting)
+LeadsOn numbers row = (t : Tree) (acted : Bool) (waiting : List ℕ) → IsWorldOf numbers t
+    → Leads EndsWell row t (kept numbers acted waiting)
 
 -- a range stands in the user area
 abbrev pub InUserArea : ℕ → ℕ → Type 0

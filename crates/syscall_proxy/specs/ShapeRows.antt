@@ -29,6 +29,7 @@ pub done-closes : (value : ℕ) → Closes stops Marks IsResult (done value)
 done-closes value = (by_result, tt)
 
 -- a row by a test stays inside
-pub inside-if : (b : Bool) (one other : Row) → StaysInside one → StaysInside other → StaysInside (if b then one else other)
+pub inside-if : (b : Bool) (one other : Row) → StaysInside one → StaysInside other
+    → StaysInside (if b then one else other)
 inside-if true one other p q = p
 inside-if false one other p q = q

@@ -28,7 +28,8 @@ fields_bytes (first ∷ rest) = little_bytes first.size first.value ++ fields_by
 abbrev pub blocks_of : ℕ → ℕ
 blocks_of size = div_ceil size 512
 
--- dev, ino; mode, nlink, uid, gid; rdev, a pad, size; blksize, a pad; blocks; three times, each with nanoseconds; two unused
+-- dev, ino; mode, nlink, uid, gid; rdev, a pad, size; blksize, a pad; blocks; three times, each with nanoseconds;
+-- two unused
 abbrev pub stat_record : ℕ → ℕ → List ℕ
 stat_record mode size = fields_bytes
     (field 8 0 ∷ field 8 0

@@ -1,12 +1,13 @@
 // A host's call.
 ghost use Rattle.std.specs.Prelude.{◌≡◌, ◌⊎◌, ℕ, List, [], Err, Ok, Some, false, IfOk};
-ghost use Rattle.fe_base.specs.Outside.{Rose};
+ghost use Rattle.fe_base.specs.Outside.{capacity, PutSuits, Rose};
 ghost use Rattle.folder_tree.specs.Tree.{Tree};
 ghost use Rattle.host_text.specs.Outside.{acts};
 ghost use Rattle.host_text.specs.Played.{Played, at};
 ghost use Rattle.syscall_proxy.specs.CallTable.{call_row};
 ghost use Rattle.syscall_proxy.specs.HostLaws.{Late, NeverFell, Unmoved};
 ghost use Rattle.syscall_proxy.specs.Kept.{kept};
+ghost use Rattle.syscall_proxy.specs.Streams.{call_puts, call_takes};
 ghost use Rattle.syscall_proxy.specs.Worlds.{IsSmall, IsWorldOf};
 ghost use Rattle.syscall_proxy.specs.declared.answers.CallFault.{CallFault as Fault};
 
@@ -56,6 +57,17 @@ impl Host {
         ensures steady { (t : Tree) → F.tree folder.old ≡ Some t → IsWorldOf self.old.numbers t
             → F.steady folder.old → (result ≡ Err CallFault.FileFault → ⊥)
             × (F.faults folder.new ≡ F.faults folder.old) × F.steady folder.new }
+        ensures steady_input { I.steady input.old → (result ≡ Err CallFault.InputFault → ⊥)
+            × (I.faults input.new ≡ I.faults input.old) × I.steady input.new }
+        ensures steady_console { C.steady console.old → PutSuits (C.room console.old) (call_puts self.old.numbers request)
+            → (result ≡ Err CallFault.ConsoleFault → ⊥)
+            × (C.faults console.new ≡ C.faults console.old) × C.steady console.new }
+        ensures console_stays { C.steady console.old → (result ≡ Err CallFault.ConsoleFault → ⊥)
+            → (C.faults console.new ≡ C.faults console.old) × C.steady console.new }
+        ensures capacity { capacity (C.held console.new) (C.room console.new)
+            ≡ capacity (C.held console.old) (C.room console.old) }
+        ensures input_untouched { call_takes self.old.numbers request ≡ 0 → input.new ≡ input.old }
+        ensures console_untouched { call_puts self.old.numbers request ≡ 0 → console.new ≡ console.old }
     {
         carry_out(
             &mut self.calls,

@@ -7,10 +7,13 @@ use Rattle.syscall_proxy.proofs.buffer.read_front.Goals as goal
 
 pub returns-in-Ok-clause-ok : goal.returns-in-Ok-clause-ok
 returns-in-Ok-clause-ok g c =
-    let room : length (take c.args.count c.args.bytes.now) ≡ c.args.count = length-take-le c.args.count c.args.bytes.now c.requires.room in
+    let room : length (take c.args.count c.args.bytes.now) ≡ c.args.count =
+    length-take-le c.args.count c.args.bytes.now c.requires.room in
     let size : length c.read.new.into ≡ c.args.count = omega (arith, c.read.auto.into, room) in
-    read_front g.P.ChunkPort c.args.mem.now c.read.new.self c.args.at c.args.count c.read.new.into (drop c.args.count c.args.bytes.now) size
-    (same_count g.P.ChunkPort c.args.mem.now c.read.new.self c.args.at (length (take c.args.count c.args.bytes.now)) c.args.count (Ok c.read.new.into) room
+    read_front g.P.ChunkPort c.args.mem.now c.read.new.self c.args.at c.args.count c.read.new.into
+    (drop c.args.count c.args.bytes.now) size
+    (same_count g.P.ChunkPort c.args.mem.now c.read.new.self c.args.at
+    (length (take c.args.count c.args.bytes.now)) c.args.count (Ok c.read.new.into) room
     (record {
       kept = c.in-Ok.ensures.kept;
       maps = c.in-Ok.ensures.maps;
@@ -27,8 +30,10 @@ returns-in-Ok-clause-ok g c =
 
 pub returns-in-Err-clause-err : goal.returns-in-Err-clause-err
 returns-in-Err-clause-err g c =
-    let room : length (take c.args.count c.args.bytes.now) ≡ c.args.count = length-take-le c.args.count c.args.bytes.now c.requires.room in
-    same_count g.P.ChunkPort c.args.mem.now c.read.new.self c.args.at (length (take c.args.count c.args.bytes.now)) c.args.count (Err c.in-Err.why) room
+    let room : length (take c.args.count c.args.bytes.now) ≡ c.args.count =
+    length-take-le c.args.count c.args.bytes.now c.requires.room in
+    same_count g.P.ChunkPort c.args.mem.now c.read.new.self c.args.at
+    (length (take c.args.count c.args.bytes.now)) c.args.count (Err c.in-Err.why) room
     (record {
       kept = c.in-Err.ensures.kept;
       maps = c.in-Err.ensures.maps;

@@ -4,7 +4,8 @@ use Rattle.syscall_proxy.proofs.outside.write.Goals as goal
 
 pub returns-in-Err-clause-err : goal.returns-in-Err-clause-err
 returns-in-Err-clause-err g c =
-    let Q : List ℕ → Type 0 = λ bytes. HasWritten g.P.ChunkPort c.args.mem.now c.write.new.self c.args.at bytes (Err c.in-Err.why) in (
+    let Q : List ℕ → Type 0 = λ bytes. HasWritten g.P.ChunkPort c.args.mem.now c.write.new.self c.args.at bytes
+    (Err c.in-Err.why) in (
       c.in-Err.why,
       subst Q c.as_slice.ensures (record {
         kept = c.in-Err.ensures.kept;

@@ -1,14 +1,19 @@
-use Rattle.std.proofs.Common.{◌≡◌, ◌<◌, ℕ, ◌-◌, ◌^◌, Bool, true, false, ◌==◌, not, nat_lt, nat_le, arith, rules, refl, ap, sym, ◌∙◌, ne_eqb, Ok, Err}
+use Rattle.std.proofs.Common.{◌≡◌, ◌<◌, ℕ, ◌-◌, ◌^◌, Bool, true, false, ◌==◌, not, nat_lt, nat_le, arith, rules, refl}
+use Rattle.std.proofs.Common.{ap, sym, ◌∙◌, ne_eqb, Ok, Err}
 use Rattle.std.proofs.lemmas.Bool.{eq-eqb}
 use Rattle.std.proofs.lemmas.Bool.Decides.{nat_tests}
-use Rattle.host_text.specs.Played.{ended, has_read, read_stopped, has_written, write_stopped, has_taken, take_stopped, has_put, put_stopped, has_asked, ask_stopped, noted}
+use Rattle.host_text.specs.Played.{ended, has_read, read_stopped, has_written, write_stopped, has_taken, take_stopped}
+use Rattle.host_text.specs.Played.{has_put, put_stopped, has_asked, ask_stopped, noted}
 use Rattle.fe_base.specs.Limits.{guest_file_limit}
 use Rattle.syscall_proxy.specs.declared.answers.CallAnswer.TheVariants.{Result as Value}
 use Rattle.syscall_proxy.proofs.Leaves.{kept-as, done-by, residual}
 use Rattle.syscall_proxy.proofs.calls.Calls.give.Goals as goal
 
 pub returns-in_err-write-clause-played : goal.returns-in_err-write-clause-played
-returns-in_err-write-clause-played g c = λ waiting. write_stopped c.in_err-write.ensures.err.1 (residual _ _ c.from_residual.ensures ∙ ap Err c.in_err-write.ensures.err.2) refl
+returns-in_err-write-clause-played g c =
+    λ waiting. write_stopped c.in_err-write.ensures.err.1
+    (residual _ _ c.from_residual.ensures ∙ ap Err c.in_err-write.ensures.err.2) refl
 
 pub returns-clause-played : goal.returns-clause-played
-returns-clause-played g c = λ waiting. has_written c.in_ok-write.ensures.ok (ended (ap (λ n. Ok (Value n)) c.len.ensures) refl)
+returns-clause-played g c = λ waiting. has_written c.in_ok-write.ensures.ok
+    (ended (ap (λ n. Ok (Value n)) c.len.ensures) refl)

@@ -1,17 +1,25 @@
-use Rattle.std.proofs.Common.{◌≡◌, ◌<◌, ℕ, ◌-◌, ◌^◌, Bool, true, false, ◌==◌, not, nat_lt, nat_le, arith, rules, refl, ap, sym, ◌∙◌, ne_eqb, Ok, Err}
+use Rattle.std.proofs.Common.{◌≡◌, ◌<◌, ℕ, ◌-◌, ◌^◌, Bool, true, false, ◌==◌, not, nat_lt, nat_le, arith, rules, refl}
+use Rattle.std.proofs.Common.{ap, sym, ◌∙◌, ne_eqb, Ok, Err}
 use Rattle.std.proofs.lemmas.Bool.{eq-eqb}
 use Rattle.std.proofs.lemmas.Bool.Decides.{nat_tests}
-use Rattle.host_text.specs.Played.{ended, has_read, read_stopped, has_written, write_stopped, has_taken, take_stopped, has_put, put_stopped, has_asked, ask_stopped, noted}
+use Rattle.host_text.specs.Played.{ended, has_read, read_stopped, has_written, write_stopped, has_taken, take_stopped}
+use Rattle.host_text.specs.Played.{has_put, put_stopped, has_asked, ask_stopped, noted}
 use Rattle.fe_base.specs.Limits.{guest_file_limit}
 use Rattle.syscall_proxy.specs.declared.answers.CallAnswer.TheVariants.{Result as Value}
 use Rattle.syscall_proxy.proofs.Leaves.{kept-as, done-by, residual}
 use Rattle.syscall_proxy.proofs.calls.Calls.read_input.Goals as goal
 
 pub returns-then-count-eq0-clause-played : goal.returns-then-count-eq0-clause-played
-returns-then-count-eq0-clause-played g c = λ waiting. rw (eq-eqb _ _ c.if-count-eq0.true) (done-by c.done.ensures.value c.done.ensures.acted c.done.ensures.numbers)
+returns-then-count-eq0-clause-played g c =
+    λ waiting. rw (eq-eqb _ _ c.if-count-eq0.true)
+    (done-by c.done.ensures.value c.done.ensures.acted c.done.ensures.numbers)
 
 pub returns-in_err-take-clause-played : goal.returns-in_err-take-clause-played
-returns-in_err-take-clause-played g c = λ waiting. rw (ne_eqb _ _ c.if-count-eq0.false) (take_stopped c.in_err-take.ensures.err.1 (residual _ _ c.from_residual.ensures ∙ ap Err c.in_err-take.ensures.err.2) refl)
+returns-in_err-take-clause-played g c =
+    λ waiting. rw (ne_eqb _ _ c.if-count-eq0.false)
+    (take_stopped c.in_err-take.ensures.err.1
+    (residual _ _ c.from_residual.ensures ∙ ap Err c.in_err-take.ensures.err.2) refl)
 
 pub returns-clause-played : goal.returns-clause-played
-returns-clause-played g c = λ waiting. rw (ne_eqb _ _ c.if-count-eq0.false) (has_taken c.in_ok-take.ensures.ok (noted refl (c.give.ensures.played waiting)))
+returns-clause-played g c = λ waiting. rw (ne_eqb _ _ c.if-count-eq0.false)
+    (has_taken c.in_ok-take.ensures.ok (noted refl (c.give.ensures.played waiting)))

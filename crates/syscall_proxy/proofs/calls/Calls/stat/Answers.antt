@@ -1,24 +1,35 @@
-use Rattle.std.proofs.Common.{◌≡◌, ◌<◌, ℕ, ◌-◌, ◌^◌, Bool, true, false, ◌==◌, ◌||◌, not, nat_lt, nat_le, List, [], length, arith, rules, refl, ap, sym, ◌∙◌, ne_eqb, Ok, Err}
+use Rattle.std.proofs.Common.{◌≡◌, ◌<◌, ℕ, ◌-◌, ◌^◌, Bool, true, false, ◌==◌, ◌||◌, not, nat_lt, nat_le, List, []}
+use Rattle.std.proofs.Common.{length, arith, rules, refl, ap, sym, ◌∙◌, ne_eqb, Ok, Err}
 use Rattle.std.proofs.lemmas.Bool.{eq-eqb, eqb-true, eqb-false}
 use Rattle.std.proofs.lemmas.Bool.Decides.{nat_tests}
 use Rattle.fe_base.specs.Limits.{guest_file_limit, guest_path_limit}
 use Rattle.host_text.specs.Laws.{on-true, on-false}
-use Rattle.host_text.specs.Played.{ended, has_read, read_stopped, has_written, write_stopped, has_taken, take_stopped, has_put, put_stopped, has_asked, ask_stopped, noted}
+use Rattle.host_text.specs.Played.{ended, has_read, read_stopped, has_written, write_stopped, has_taken, take_stopped}
+use Rattle.host_text.specs.Played.{has_put, put_stopped, has_asked, ask_stopped, noted}
 use Rattle.syscall_proxy.specs.declared.answers.CallAnswer.TheVariants.{Result as Value}
 use Rattle.syscall_proxy.proofs.Leaves.{kept-as, done-by, residual}
 use Rattle.syscall_proxy.proofs.calls.Calls.stat.Goals as goal
 
 pub returns-in-Closed-clause-played : goal.returns-in-Closed-clause-played
-returns-in-Closed-clause-played g c = λ waiting. rw (sym c.at.ensures ∙ c.in-Closed.is) (done-by c.refuse.ensures.value c.refuse.ensures.acted c.refuse.ensures.numbers)
+returns-in-Closed-clause-played g c =
+    λ waiting. rw (sym c.at.ensures ∙ c.in-Closed.is)
+    (done-by c.refuse.ensures.value c.refuse.ensures.acted c.refuse.ensures.numbers)
 
 pub returns-in-Input-clause-played : goal.returns-in-Input-clause-played
-returns-in-Input-clause-played g c = λ waiting. rw (sym c.at.ensures ∙ c.in-Input.is) (c.give_stat.ensures.played waiting)
+returns-in-Input-clause-played g c =
+    λ waiting. rw (sym c.at.ensures ∙ c.in-Input.is) (c.give_stat.ensures.played waiting)
 
 pub returns-in-Console-clause-played : goal.returns-in-Console-clause-played
-returns-in-Console-clause-played g c = λ waiting. rw (sym c.at.ensures ∙ c.in-Console.is) (c.give_stat-in-Console.ensures.played waiting)
+returns-in-Console-clause-played g c =
+    λ waiting. rw (sym c.at.ensures ∙ c.in-Console.is) (c.give_stat-in-Console.ensures.played waiting)
 
 pub returns-in_err-size-in-File-clause-played : goal.returns-in_err-size-in-File-clause-played
-returns-in_err-size-in-File-clause-played g c = λ waiting. rw (sym c.at.ensures ∙ c.in-File.is) (ask_stopped c.in_err-size-in-File.ensures.err.1 (residual _ _ c.from_residual.ensures ∙ ap Err c.in_err-size-in-File.ensures.err.2) refl)
+returns-in_err-size-in-File-clause-played g c =
+    λ waiting. rw (sym c.at.ensures ∙ c.in-File.is)
+    (ask_stopped c.in_err-size-in-File.ensures.err.1
+    (residual _ _ c.from_residual.ensures ∙ ap Err c.in_err-size-in-File.ensures.err.2) refl)
 
 pub returns-in_ok-size-in-File-clause-played : goal.returns-in_ok-size-in-File-clause-played
-returns-in_ok-size-in-File-clause-played g c = λ waiting. rw (sym c.at.ensures ∙ c.in-File.is) (has_asked c.in_ok-size-in-File.ensures.ok (c.give_stat-in-File.ensures.played waiting))
+returns-in_ok-size-in-File-clause-played g c =
+    λ waiting. rw (sym c.at.ensures ∙ c.in-File.is)
+    (has_asked c.in_ok-size-in-File.ensures.ok (c.give_stat-in-File.ensures.played waiting))

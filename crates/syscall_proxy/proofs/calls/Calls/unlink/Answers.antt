@@ -1,15 +1,19 @@
-use Rattle.std.proofs.Common.{◌≡◌, ◌<◌, ℕ, ◌-◌, ◌^◌, Bool, true, false, ◌==◌, not, nat_lt, nat_le, arith, rules, refl, ap, sym, ◌∙◌, ne_eqb, Ok, Err}
+use Rattle.std.proofs.Common.{◌≡◌, ◌<◌, ℕ, ◌-◌, ◌^◌, Bool, true, false, ◌==◌, not, nat_lt, nat_le, arith, rules, refl}
+use Rattle.std.proofs.Common.{ap, sym, ◌∙◌, ne_eqb, Ok, Err}
 use Rattle.std.proofs.lemmas.Bool.{eq-eqb}
 use Rattle.std.proofs.lemmas.Bool.Decides.{nat_tests}
 use Rattle.fe_base.specs.Limits.{guest_file_limit, guest_path_limit}
 use Rattle.host_text.specs.Laws.{on-true, on-false}
-use Rattle.host_text.specs.Played.{ended, has_read, read_stopped, has_written, write_stopped, has_taken, take_stopped, has_put, put_stopped, has_asked, ask_stopped, noted}
+use Rattle.host_text.specs.Played.{ended, has_read, read_stopped, has_written, write_stopped, has_taken, take_stopped}
+use Rattle.host_text.specs.Played.{has_put, put_stopped, has_asked, ask_stopped, noted}
 use Rattle.syscall_proxy.specs.declared.answers.CallAnswer.TheVariants.{Result as Value}
 use Rattle.syscall_proxy.proofs.Leaves.{kept-as, done-by, residual}
 use Rattle.syscall_proxy.proofs.calls.Calls.unlink.Goals as goal
 
 pub returns-in_err-kind-clause-played : goal.returns-in_err-kind-clause-played
-returns-in_err-kind-clause-played g c = λ waiting. (ask_stopped c.in_err-kind.ensures.err.1 (residual _ _ c.from_residual.ensures ∙ ap Err c.in_err-kind.ensures.err.2) refl)
+returns-in_err-kind-clause-played g c =
+    λ waiting. (ask_stopped c.in_err-kind.ensures.err.1
+    (residual _ _ c.from_residual.ensures ∙ ap Err c.in_err-kind.ensures.err.2) refl)
 
 pub returns-clause-played : goal.returns-clause-played
 returns-clause-played g c = λ waiting. has_asked c.in_ok-kind.ensures.ok (c.unlink_by.ensures.played waiting)

@@ -7,14 +7,18 @@ use Rattle.syscall_proxy.proofs.numbers.Numbers.first_free.Goals as goal
 
 pub returns-in-Some : goal.returns-in-Some
 returns-in-Some c =
-    let e = position_from_yields_List is_closed _ _ c.position.result c.position.ensures.ran (YieldsList-from_slice c.self.inside.stands.items (c.iter.ensures.rest ∙ c.as_slice.ensures.value)) (λ x b q k. search (rules, tests)) in
+    let e = position_from_yields_List is_closed _ _ c.position.result c.position.ensures.ran
+    (YieldsList-from_slice c.self.inside.stands.items (c.iter.ensures.rest ∙ c.as_slice.ensures.value))
+    (λ x b q k. search (rules, tests)) in
     let v = c.self.view_is in
     let i = c.in-Some.is in
     cc
 
 pub returns-in-None : goal.returns-in-None
 returns-in-None c =
-    let e = position_from_yields_List is_closed _ _ c.position.result c.position.ensures.ran (YieldsList-from_slice c.self.inside.stands.items (c.iter.ensures.rest ∙ c.as_slice.ensures.value)) (λ x b q k. search (rules, tests)) in
+    let e = position_from_yields_List is_closed _ _ c.position.result c.position.ensures.ran
+    (YieldsList-from_slice c.self.inside.stands.items (c.iter.ensures.rest ∙ c.as_slice.ensures.value))
+    (λ x b q k. search (rules, tests)) in
     let v = c.self.view_is in
     let i = c.in-None.is in
     cc
