@@ -1,5 +1,5 @@
 -- Ranges that are read and written of an area that nothing else changes, with steps before, between and after the accesses.
-use Rattle.std.proofs.Common.{◌≡◌, ℕ, ◌+◌, ◌-◌, ◌%◌, ◌<◌, ◌≤◌, List, [], ◌∷◌, ◌++◌, length, take, drop, length-drop, take-append-drop, append_assoc, sym, ap, subst, ◌∙◌, arith, ◌^◌}
+use Rattle.std.proofs.Common.{◌≡◌, ℕ, ◌+◌, ◌-◌, ◌%◌, ◌<◌, ◌≤◌, List, [], ◌∷◌, ◌++◌, length, take, drop, length-drop, take-append-drop, append_assoc, sym, ap, subst, ◌∙◌, arith}
 use Rattle.std.specs.Int.{to_le_bytes, w64}
 use Rattle.std.proofs.lemmas.List.{length-take-le, take-take, drop-take, drop-drop, take_all, nil_from_length}
 use Rattle.std.proofs.lemmas.Nat.{le_bytes_8}

@@ -23,12 +23,14 @@ module _ {S : Type 0} (next : S → Beat → S × ℕ) where
   -- doublewords were read from an address on
   abbrev pub BeatsRead : S → ℕ → List ℕ → S → Type 0
   BeatsRead before at [] after = after ≡ before
-  BeatsRead before at (value ∷ more) after = (between : S) × (next before (ReadBeat at) ≡ (between, value)) × BeatsRead between (at + 8) more after
+  BeatsRead before at (value ∷ more) after =
+      (between : S) × (next before (ReadBeat at) ≡ (between, value)) × BeatsRead between (at + 8) more after
 
   -- doublewords were written from an address on
   abbrev pub BeatsWritten : S → ℕ → List ℕ → S → Type 0
   BeatsWritten before at [] after = after ≡ before
-  BeatsWritten before at (value ∷ more) after = (between : S) × (next before (WriteBeat at value) ≡ (between, 0)) × BeatsWritten between (at + 8) more after
+  BeatsWritten before at (value ∷ more) after =
+      (between : S) × (next before (WriteBeat at value) ≡ (between, 0)) × BeatsWritten between (at + 8) more after
 
   -- a chunk was read: its bytes are those of the replies
   pub record ReadByBeats (at : ℕ) (bytes : List ℕ) (before after : S) : Type 0 where

@@ -5,7 +5,8 @@ use Rattle.fe_base.specs.Outside.{Rose}
 use Rattle.chunk_memory.specs.Ranges.{IsMappedRange, IsFirstUnmapped}
 use Rattle.chunk_memory.specs.Transactions.{Chunk, ReadChunk, WriteChunk}
 use Rattle.chunk_memory.specs.declared.stops.PortStop.{PortStop}
-use Rattle.chunk_memory.specs.declared.stops.PortStop.TheVariants.{Spent as PortSpent, WireFault as PortFault, CmdErr as PortError}
+use Rattle.chunk_memory.specs.declared.stops.PortStop.TheVariants.{Spent as PortSpent, WireFault as PortFault}
+use Rattle.chunk_memory.specs.declared.stops.PortStop.TheVariants.{CmdErr as PortError}
 use Rattle.chunk_memory.specs.declared.stops.MemStop.{MemStop}
 use Rattle.chunk_memory.specs.declared.stops.MemStop.TheVariants.{Unmapped, Spent, WireFault, CmdErr}
 
@@ -61,19 +62,22 @@ pub record MemUnfaulted (before now : Counts) (stop : Option MemStop) (after : T
 
 -- over a told and ready state in which every pause is positive, so many transactions were made at most
 abbrev pub CostsAtMost : {S : Type 0} → Option S → (S → Type 0) → (S → Type 0) → Counts → Counts → ℕ → Type 0
-CostsAtMost {S} told ready positive before now most = (state : S) → told ≡ Some state → ready state → positive state → before.left ≤ now.left + most
+CostsAtMost {S} told ready positive before now most =
+    (state : S) → told ≡ Some state → ready state → positive state → before.left ≤ now.left + most
 
 -- Unmapped comes exactly where a doubleword of the range is not mapped, and tells the first one
 abbrev pub Maps : ℕ → ℕ → Option MemStop → Type 0
 Maps at count stop = (doubleword : ℕ) → (stop ≡ Some (Unmapped doubleword)) ↔ IsFirstUnmapped at count doubleword
 
 -- what the read of a chunk did to the told state; of a refused one the bytes are not known
-abbrev pub ChunkRead : {S T : Type 0} → (S → Chunk → S → Type 0) → (S → Chunk → PortStop → S → Type 0) → ℕ → List ℕ → Result T PortStop → S → S → Type 0
+abbrev pub ChunkRead : {S T : Type 0} → (S → Chunk → S → Type 0) → (S → Chunk → PortStop → S → Type 0) → ℕ → List ℕ
+    → Result T PortStop → S → S → Type 0
 ChunkRead one refused at bytes (Ok done) before after = one before (ReadChunk at bytes) after
 ChunkRead one refused at bytes (Err stop) before after = refused before (ReadChunk at bytes) stop after
 
 -- what the write of a chunk did to the told state
-abbrev pub ChunkWritten : {S T : Type 0} → (S → Chunk → S → Type 0) → (S → Chunk → PortStop → S → Type 0) → ℕ → List ℕ → Result T PortStop → S → S → Type 0
+abbrev pub ChunkWritten : {S T : Type 0} → (S → Chunk → S → Type 0) → (S → Chunk → PortStop → S → Type 0) → ℕ → List ℕ
+    → Result T PortStop → S → S → Type 0
 ChunkWritten one refused at bytes (Ok done) before after = one before (WriteChunk at bytes) after
 ChunkWritten one refused at bytes (Err stop) before after = refused before (WriteChunk at bytes) stop after
 

@@ -24,13 +24,32 @@ pub ram-turns : TurnsMake ram_ran ram_touched ram-none ram-more (λ (s : BusStat
 ram-turns before after (ReadBeat at) reply ok asked e =
     let same : before ≡ after = ap (λ (p : BusState × ℕ). p.0) e in
     let value : unwrap_or (beat before at) 0 ≡ reply = ap (λ (p : BusState × ℕ). p.1) e in
-    record { steps = 0; between = before; pause = refl; access = (sym same, beat-some before at asked ∙ ap (λ (n : ℕ). Some n) value); still_valid = tt; some_step = λ p. absurd p; still_positive = λ p. p }
+    record {
+      steps = 0;
+      between = before;
+      pause = refl;
+      access = (sym same, beat-some before at asked ∙ ap (λ (n : ℕ). Some n) value);
+      still_valid = tt;
+      some_step =
+          λ p. absurd p;
+      still_positive = λ p. p;
+    }
 ram-turns before after (WriteBeat at value) reply ok asked e =
     let same : with_beat before at value ≡ after = ap (λ (p : BusState × ℕ). p.0) e in
-    record { steps = 0; between = before; pause = refl; access = sym same; still_valid = tt; some_step = λ p. absurd p; still_positive = λ p. p }
+    record {
+      steps = 0;
+      between = before;
+      pause = refl;
+      access = sym same;
+      still_valid = tt;
+      some_step = λ p. absurd p;
+      still_positive = λ p. p;
+    }
 
-pub ram-one : OneReaches 8 1024 (λ (s : BusState). s) (λ _. Unit {0}) (λ _. Unit {0}) (λ _. ⊥) ram_ran (Reached ram_ran ram_touched) (DirectOne ram_turn)
+pub ram-one : OneReaches 8 1024 (λ (s : BusState). s) (λ _. Unit {0}) (λ _. Unit {0}) (λ _. ⊥) ram_ran
+    (Reached ram_ran ram_touched) (DirectOne ram_turn)
 ram-one = direct-one ram_ran ram_touched ram-none ram-more (λ s. s) (λ _. Unit {0}) (λ _. ⊥) ram_turn ram-turns
 
-pub ram-refused : RefusedReaches 8 1024 (λ (s : BusState). s) (λ s v. s ≡ v) (λ _. Unit {0}) (λ _. Unit {0}) (Reached ram_ran ram_touched) (λ before chunk stop after. ⊥)
+pub ram-refused : RefusedReaches 8 1024 (λ (s : BusState). s) (λ s v. s ≡ v) (λ _. Unit {0}) (λ _. Unit {0})
+    (Reached ram_ran ram_touched) (λ before chunk stop after. ⊥)
 ram-refused before after chunk stop ok ready asked cut = absurd cut

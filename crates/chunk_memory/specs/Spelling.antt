@@ -1,5 +1,6 @@
 -- Which accesses spell a read or a write of a range of bytes.
-use Rattle.std.specs.Prelude.{◌≡◌, ◌<◌, ◌≤◌, ◌+◌, ◌-◌, ◌%◌, ◌^◌, ◌⊎◌, ℕ, List, [], ◌∷◌, ◌++◌, length, take, drop, Result, Ok, Err}
+use Rattle.std.specs.Prelude.{◌≡◌, ◌<◌, ◌≤◌, ◌+◌, ◌-◌, ◌%◌, ◌^◌, ◌⊎◌, ℕ, List, [], ◌∷◌, ◌++◌, length, take, drop}
+use Rattle.std.specs.Prelude.{Result, Ok, Err}
 use Rattle.std.specs.Int.{to_le_bytes, w32, w64}
 use Rattle.fe_base.specs.Access.{Access, Loaded, Stored, StoredLow, StoredHigh}
 use Rattle.guest_memory.specs.Memory.{with_part}
@@ -82,7 +83,8 @@ pub record MergesPiece (unit cut at : ℕ) (bytes : List ℕ) (place old : ℕ) 
   pub same_place : place_of store ≡ place
   pub here : stored_at store ≡ at - at % unit
   pub fits : StoredFits store
-  pub bytes_are : stored_bytes store ≡ with_part (take unit (drop (at % 8 - at % unit) (to_le_bytes w64 old))) (at % unit) (take size bytes)
+  pub bytes_are : stored_bytes store
+      ≡ with_part (take unit (drop (at % 8 - at % unit) (to_le_bytes w64 old))) (at % unit) (take size bytes)
 
 -- one access for each piece, in rising order, writes the range; directly before the store of a piece that is a part of a
 -- unit its unit is loaded
@@ -90,7 +92,8 @@ abbrev pub SpellsWrite : ℕ → ℕ → ℕ → List ℕ → List Access → Ty
 SpellsWrite unit cut at bytes [] = bytes ≡ []
 SpellsWrite unit cut at bytes (Loaded place old ∷ []) = ⊥
 SpellsWrite unit cut at bytes (Loaded place old ∷ store ∷ more) =
-    (piece : MergesPiece unit cut at bytes place old store) × SpellsWrite unit cut (at + piece.size) (drop piece.size bytes) more
+    (piece : MergesPiece unit cut at bytes place old store)
+    × SpellsWrite unit cut (at + piece.size) (drop piece.size bytes) more
 SpellsWrite unit cut at bytes (Stored place value ∷ more) =
     StoresPiece unit cut at bytes (Stored place value) × SpellsWrite unit cut (at + 8) (drop 8 bytes) more
 SpellsWrite unit cut at bytes (StoredLow place value ∷ more) =
@@ -108,14 +111,16 @@ SpellsChunk unit (ReadChunk place bytes) accesses = SpellsRead 8 place bytes acc
 SpellsChunk unit (WriteChunk place bytes) accesses = SpellsWrite unit 8 place bytes accesses
 
 -- accesses were made behind at least one step of the hart
-pub record StepsFirst {V : Type 0} (ran : V → ℕ → V → Type 0) (reached : V → List Access → V → Type 0) (before : V) (accesses : List Access) (after : V) : Type 0 where
+pub record StepsFirst {V : Type 0} (ran : V → ℕ → V → Type 0) (reached : V → List Access → V → Type 0) (before : V)
+    (accesses : List Access) (after : V) : Type 0 where
   pub steps : ℕ
   pub some : 0 < steps
   pub first : V
   pub ran_so : ran before steps first
   pub path : reached first accesses after
 
-module _ {S V : Type 0} (view : S → V) (stands : S → V → Type 0) (ready positive : S → Type 0) (ran : V → ℕ → V → Type 0) (reached : V → List Access → V → Type 0) where
+module _ {S V : Type 0} (view : S → V) (stands : S → V → Type 0) (ready positive : S → Type 0)
+    (ran : V → ℕ → V → Type 0) (reached : V → List Access → V → Type 0) where
   -- from view to view by exactly the accesses of a read, behind a step of the hart where every pause is positive, and the port is ready again
   pub record ReadWhole (unit at count : ℕ) (bytes : List ℕ) (before after : S) : Type 0 where
     pub size : length bytes ≡ count

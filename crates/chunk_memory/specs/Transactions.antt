@@ -1,8 +1,10 @@
 -- The transactions of a range: which chunks a port is asked for, and what making them does to a told state.
-use Rattle.std.specs.Prelude.{◌≡◌, ◌<◌, ◌+◌, ◌-◌, ◌*◌, ◌/◌, ◌%◌, ◌==◌, ◌||◌, ℕ, Bool, true, false, not, nat_lt, min, if◌then◌else◌, List, [], ◌∷◌, ◌++◌, length, take, drop, Result, Ok, Err}
+use Rattle.std.specs.Prelude.{◌≡◌, ◌<◌, ◌+◌, ◌-◌, ◌*◌, ◌/◌, ◌%◌, ◌==◌, ◌||◌, ℕ, Bool, true, false, not, nat_lt, min}
+use Rattle.std.specs.Prelude.{if◌then◌else◌, List, [], ◌∷◌, ◌++◌, length, take, drop, Result, Ok, Err}
 use Rattle.guest_memory.specs.Memory.{with_part}
 use Rattle.chunk_memory.specs.declared.stops.PortStop.{PortStop}
-use Rattle.chunk_memory.specs.declared.stops.PortStop.TheVariants.{Spent as PortSpent, WireFault as PortFault, CmdErr as PortError}
+use Rattle.chunk_memory.specs.declared.stops.PortStop.TheVariants.{Spent as PortSpent, WireFault as PortFault}
+use Rattle.chunk_memory.specs.declared.stops.PortStop.TheVariants.{CmdErr as PortError}
 use Rattle.chunk_memory.specs.declared.stops.MemStop.{MemStop}
 use Rattle.chunk_memory.specs.declared.stops.MemStop.TheVariants.{Unmapped, Spent, WireFault, CmdErr}
 
@@ -21,21 +23,24 @@ chunk_size unit most at count = if begins_in_part unit at count then unit else m
 
 -- how many of the range's bytes these are
 abbrev pub step_size : ℕ → ℕ → ℕ → ℕ → ℕ
-step_size unit most at count = if begins_in_part unit at count then min count (unit - at % unit) else min (count / unit * unit) most
+step_size unit most at count = if begins_in_part unit at count then min count (unit - at % unit) else min
+    (count / unit * unit) most
 
 -- the first chunk of a read: so many of the range's bytes stand in it
 pub record ReadStep (unit most at : ℕ) (bytes : List ℕ) (place : ℕ) (got : List ℕ) : Type 0 where
   pub some : 0 < length bytes
   pub place_is : place ≡ at - at % unit
   pub size : length got ≡ chunk_size unit most at (length bytes)
-  pub bytes_are : take (step_size unit most at (length bytes)) bytes ≡ take (step_size unit most at (length bytes)) (drop (at % unit) got)
+  pub bytes_are : take (step_size unit most at (length bytes)) bytes
+      ≡ take (step_size unit most at (length bytes)) (drop (at % unit) got)
 
 -- the chunks that read a range
 abbrev pub ReadChunks : ℕ → ℕ → ℕ → List ℕ → List Chunk → Type 0
 ReadChunks unit most at bytes [] = bytes ≡ []
 ReadChunks unit most at bytes (ReadChunk place got ∷ more) =
     ReadStep unit most at bytes place got
-    × ReadChunks unit most (at + step_size unit most at (length bytes)) (drop (step_size unit most at (length bytes)) bytes) more
+    × ReadChunks unit most (at + step_size unit most at (length bytes))
+    (drop (step_size unit most at (length bytes)) bytes) more
 ReadChunks unit most at bytes (WriteChunk place put ∷ more) = ⊥
 
 -- the first chunk of a write that begins with a whole unit
@@ -47,7 +52,8 @@ pub record WholeStep (unit most at : ℕ) (bytes : List ℕ) (place : ℕ) (put 
 
 -- the first two chunks of a write that begins with a unit that is not whole: the unit is read, and written with the
 -- range's bytes in it and its others as they were
-pub record PartStep (unit most at : ℕ) (bytes : List ℕ) (read_place : ℕ) (old : List ℕ) (place : ℕ) (put : List ℕ) : Type 0 where
+pub record PartStep (unit most at : ℕ) (bytes : List ℕ) (read_place : ℕ) (old : List ℕ) (place : ℕ) (put : List ℕ)
+    : Type 0 where
   pub some : 0 < length bytes
   pub part : begins_in_part unit at (length bytes) ≡ true
   pub read_place_is : read_place ≡ at - at % unit
@@ -60,12 +66,14 @@ abbrev pub WriteChunks : ℕ → ℕ → ℕ → List ℕ → List Chunk → Typ
 WriteChunks unit most at bytes [] = bytes ≡ []
 WriteChunks unit most at bytes (WriteChunk place put ∷ more) =
     WholeStep unit most at bytes place put
-    × WriteChunks unit most (at + step_size unit most at (length bytes)) (drop (step_size unit most at (length bytes)) bytes) more
+    × WriteChunks unit most (at + step_size unit most at (length bytes))
+    (drop (step_size unit most at (length bytes)) bytes) more
 WriteChunks unit most at bytes (ReadChunk read_place old ∷ []) = ⊥
 WriteChunks unit most at bytes (ReadChunk read_place old ∷ ReadChunk place put ∷ more) = ⊥
 WriteChunks unit most at bytes (ReadChunk read_place old ∷ WriteChunk place put ∷ more) =
     PartStep unit most at bytes read_place old place put
-    × WriteChunks unit most (at + step_size unit most at (length bytes)) (drop (step_size unit most at (length bytes)) bytes) more
+    × WriteChunks unit most (at + step_size unit most at (length bytes))
+    (drop (step_size unit most at (length bytes)) bytes) more
 
 -- these chunks, one after the other, lead from a state to another
 abbrev pub Made : {S : Type 0} → (S → Chunk → S → Type 0) → S → List Chunk → S → Type 0
@@ -73,7 +81,8 @@ Made one before [] after = after ≡ before
 Made {S} one before (chunk ∷ more) after = (between : S) × one before chunk between × Made one between more after
 
 -- the chunks but the last were made, and the last one was refused
-pub record Cut {S : Type 0} (one : S → Chunk → S → Type 0) (refused : S → Chunk → PortStop → S → Type 0) (before : S) (chunks : List Chunk) (stop : PortStop) (after : S) : Type 0 where
+pub record Cut {S : Type 0} (one : S → Chunk → S → Type 0) (refused : S → Chunk → PortStop → S → Type 0) (before : S)
+    (chunks : List Chunk) (stop : PortStop) (after : S) : Type 0 where
   pub done : List Chunk
   pub last : Chunk
   pub between : S

@@ -8,7 +8,8 @@ range_turns step unit most zero at zero = 0
 range_turns step unit most zero at (suc count) = 0
 range_turns step unit most (suc fuel) at zero = 0
 range_turns step unit most (suc fuel) at (suc count) =
-    step at (suc count) + range_turns step unit most fuel (at + step_size unit most at (suc count)) (suc count - step_size unit most at (suc count))
+    step at (suc count) + range_turns step unit most fuel (at + step_size unit most at (suc count))
+    (suc count - step_size unit most at (suc count))
 
 -- a step of a read: one chunk
 abbrev pub read_step : (ℕ → ℕ) → ℕ → ℕ → ℕ → ℕ → ℕ
@@ -16,7 +17,8 @@ read_step cost unit most at count = cost (chunk_size unit most at count)
 
 -- a step of a write: one chunk, or the unit that is not whole read and written
 abbrev pub write_step : (ℕ → ℕ) → ℕ → ℕ → ℕ → ℕ → ℕ
-write_step cost unit most at count = if begins_in_part unit at count then cost unit + cost unit else cost (chunk_size unit most at count)
+write_step cost unit most at count =
+    if begins_in_part unit at count then cost unit + cost unit else cost (chunk_size unit most at count)
 
 -- the most transactions of a read, and of a write
 abbrev pub read_turns : (ℕ → ℕ) → ℕ → ℕ → ℕ → ℕ → ℕ

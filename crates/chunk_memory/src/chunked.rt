@@ -60,7 +60,7 @@ impl<P: ChunkPort> Chunked<P> {
         port
     }
 
-    /// Reads a range. After a refusal `into` may hold anything.
+    /// Reads a range. After a refusal `into` may hold anything, but after Unmapped it is as it was.
     pub fn read(&mut self, at: u64, into: &mut [u8]) -> Result<(), MemStop>
         requires { P.usable self.old }
         ensures usable { P.usable self.new }
@@ -77,6 +77,7 @@ impl<P: ChunkPort> Chunked<P> {
             (λ a b. P.ready a → ReadSpelled P.view P.stands P.ready P.positive P.ran P.reached P.unit at (length into.old)
             (with_bytes result into.new) a b) }
         ensures unmapped { (place : ℕ) → IsErrOf result (MemStop.Unmapped place) → self.new ≡ self.old }
+        ensures untouched { (place : ℕ) → IsErrOf result (MemStop.Unmapped place) → into.new ≡ into.old }
         ensures empty { length into.old ≡ 0 → self.new ≡ self.old }
         ensures empty_done { length into.old ≡ 0 → IsOk result }
     {

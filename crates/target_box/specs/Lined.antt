@@ -22,8 +22,10 @@ line_text target ask = line_of (pause_at target.pauses target.turns) (BeatExchan
 
 -- a transaction whose line is put: the next turn, with its line behind the trace
 abbrev pub next_line : Lined → Beat → Lined × ℕ
-next_line line ask =
-    (lined (next_turn line.target ask).0 (option_map (λ held. held ++ line_text line.target ask) line.trace), (next_turn line.target ask).1)
+next_line line ask = (
+  lined (next_turn line.target ask).0 (option_map (λ held. held ++ line_text line.target ask) line.trace),
+  (next_turn line.target ask).1,
+)
 
 -- a transaction whose line is not put: the same turn, and the trace stays
 abbrev pub lost_line : Lined → Beat → Lined × ℕ

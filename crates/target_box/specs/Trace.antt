@@ -13,13 +13,15 @@ pub record Entry : Type 0 where
 
 -- the next turn of a target is this exchange, which its link can carry
 abbrev pub IsTurn : TargetState → Exchange → TargetState → Type 0
-IsTurn before (BeatExchange ask reply) after = (before.link ≡ Direct) × IsBeat ask × (next_turn before ask ≡ (after, reply))
+IsTurn before (BeatExchange ask reply) after =
+    (before.link ≡ Direct) × IsBeat ask × (next_turn before ask ≡ (after, reply))
 
 -- the entries are a target's next turns one after the other, each with its pause, and lead to this last state
 abbrev pub IsLegal : TargetState → List Entry → TargetState → Type 0
 IsLegal target [] last = last ≡ target
 IsLegal target (entry ∷ more) last =
-    (after : TargetState) × (entry.pause ≡ pause_at target.pauses target.turns) × IsTurn target entry.exchange after × IsLegal after more last
+    (after : TargetState) × (entry.pause ≡ pause_at target.pauses target.turns) × IsTurn target entry.exchange after
+    × IsLegal after more last
 
 -- the text of a trace: the line of each entry in order
 abbrev pub trace_text : List Entry → List ℕ

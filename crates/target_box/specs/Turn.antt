@@ -23,7 +23,8 @@ reset_system = over reset_bus reset_hart
 
 -- a target at reset, to which no transaction was made
 abbrev pub reset_target : PausePlan → ℕ → Link → TargetState
-reset_target pauses limit link = record { system = reset_system; pauses = pauses; turns = 0; limit = limit; link = link }
+reset_target pauses limit link =
+    record { system = reset_system; pauses = pauses; turns = 0; limit = limit; link = link }
 
 -- the effect of a beat: a write replaces its doubleword
 abbrev pub beat_done : Beat → System → System
@@ -69,6 +70,8 @@ abbrev pub touched : System → Access → System → Type 0
 touched before (Loaded at value) after = (after ≡ before) × (beat before.bus at ≡ Some value)
 touched before (Stored at value) after = after ≡ over (with_beat before.bus at value) before.hart
 touched before (StoredLow at value) after =
-    (old : ℕ) × (beat before.bus at ≡ Some old) × (after ≡ over (with_beat before.bus at (old - old % 2 ^ 32 + value)) before.hart)
+    (old : ℕ) × (beat before.bus at ≡ Some old)
+    × (after ≡ over (with_beat before.bus at (old - old % 2 ^ 32 + value)) before.hart)
 touched before (StoredHigh at value) after =
-    (old : ℕ) × (beat before.bus at ≡ Some old) × (after ≡ over (with_beat before.bus at (old % 2 ^ 32 + value * 2 ^ 32)) before.hart)
+    (old : ℕ) × (beat before.bus at ≡ Some old)
+    × (after ≡ over (with_beat before.bus at (old % 2 ^ 32 + value * 2 ^ 32)) before.hart)
