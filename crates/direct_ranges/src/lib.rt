@@ -5,6 +5,9 @@
 // the range leave them (`chunk_memory/specs/Transactions`), and so is what is seen of the target, by the accesses that spell
 // the range (`chunk_memory/specs/Spelling`). So a struct may keep a target as a field and lend it for each range.
 //
+// `laws` says that the transactions of a range are one list of a trace's lines (`specs/RangeLines`); lists behind one
+// another are one list (`target_box::laws::lines_join`).
+//
 // Nothing here takes memory.
 #![tactic(auto)]
 
@@ -23,6 +26,7 @@ ghost use Rattle.target_box.specs.Lined.{lined, seen, next_line, lost_line, IsPo
 ghost use Rattle.target_box.specs.Turn.{IsUsable, ran, touched};
 ghost use Rattle.target_box.specs.declared.target.Link.TheVariants as link_of;
 
+pub mod laws;
 #[cfg(test)]
 mod tests;
 
