@@ -1,5 +1,3 @@
-pub mod MessageLemmas
 pub mod Places
-pub mod Runs
 pub mod Walks
 pub mod TrapLaws

@@ -5,8 +5,10 @@ use Rattle.std.proofs.lemmas.Bool.{false≢true}
 use Rattle.plain_machine.specs.UserStep.{UserState, UserStep, next, call, trap, user_step, step_of, Stays, moves, state_after, walked, walked-zero, walked-next}
 use Rattle.plain_machine.specs.declared.cpu.Outcome.{Outcome}
 use Rattle.plain_machine.specs.declared.cpu.Outcome.TheVariants.{Moved, Called, Trapped}
-use Rattle.plain_machine.specs.CallTable.{Process}
-use Rattle.plain_machine.specs.Direct.{World, Machine, DirectState, running, after_step, in_world, direct_step, direct_after, moves_on}
+use Rattle.host_text.specs.World.{World}
+use Rattle.syscall_proxy.specs.Kept.{Setting}
+use Rattle.plain_machine.specs.Programs.{Process}
+use Rattle.plain_machine.specs.Direct.{Machine, DirectState, running, after_step, in_world, direct_step, direct_after, moves_on}
 
 -- one step more leads on
 pub walk-next : (n : ℕ) (first mid new : UserState) → mid ≡ walked n first → user_step mid ≡ next new → new ≡ walked (n + 1) first
@@ -23,43 +25,43 @@ walk-each n first mid new at step before k low =
     elim (eq-or-lt_of_le up) [ inl last ↦ subst (λ (j : ℕ). moves (user_step (walked j first)) ≡ true) (sym last) here | inr below ↦ before k below ]
 
 -- a user step that moves on is a direct step that moves on
-moved-on : (process : Process) (w : World) (u : UserStep) → moves u ≡ true
-    → after_step process w u ≡ in_world (running (record process { state = state_after u process.state })) w
-moved-on process w (next moved) on = refl
-moved-on process w call on = absurd (false≢true on)
-moved-on process w (trap cause value) on = absurd (false≢true on)
+moved-on : (given : Setting) (process : Process) (w : World) (u : UserStep) → moves u ≡ true
+    → after_step given process w u ≡ in_world (running (record process { state = state_after u process.state })) w
+moved-on given process w (next moved) on = refl
+moved-on given process w call on = absurd (false≢true on)
+moved-on given process w (trap cause value) on = absurd (false≢true on)
 
 -- so many user steps that move on are so many direct steps
-running-direct : (first : Process) (w : World) (n : ℕ) → ((k : ℕ) → k < n → moves (user_step (walked k first.state)) ≡ true)
-    → direct_after n (in_world (running first) w) ≡ in_world (running (record first { state = walked n first.state })) w
+running-direct : (given : Setting) (first : Process) (w : World) (n : ℕ) → ((k : ℕ) → k < n → moves (user_step (walked k first.state)) ≡ true)
+    → direct_after given n (in_world (running first) w) ≡ in_world (running (record first { state = walked n first.state })) w
 unfolding direct_after walked
-running-direct first w zero each = refl
-running-direct first w (suc n) each =
-    let rest = running-direct first w n (λ k low. each k (omega arith)) in
+running-direct given first w zero each = refl
+running-direct given first w (suc n) each =
+    let rest = running-direct given first w n (λ k low. each k (omega arith)) in
     let state : UserState = walked n first.state in
-    ap direct_step rest ∙ moved-on (record first { state = state }) w (user_step state) (each n (omega arith))
+    ap (direct_step given) rest ∙ moved-on given (record first { state = state }) w (user_step state) (each n (omega arith))
 
 -- a machine that runs, and walks so many user steps
 pub walk-direct : (old new : Machine) (first : Process) (state final : UserState) (n : ℕ)
     → final ≡ walked n state → ((k : ℕ) → k < n → moves (user_step (walked k state)) ≡ true)
     → old ≡ running first → first.state ≡ state → new ≡ running (record first { state = final })
-    → (w : World) → direct_after n (in_world old w) ≡ in_world new w
-walk-direct old new first state final n at each from begins to w =
+    → (given : Setting) (w : World) → direct_after given n (in_world old w) ≡ in_world new w
+walk-direct old new first state final n at each from begins to given w =
     let on : (k : ℕ) → k < n → moves (user_step (walked k first.state)) ≡ true = λ k low. rw begins (each k low) in
     let reached : (record first { state = walked n first.state }) ≡ (record first { state = final }) =
     ap (λ s. record first { state = walked n s }) begins ∙ ap (λ s. record first { state = s }) (sym at) in
-    ap (λ (m : Machine). direct_after n (in_world m w)) from ∙ running-direct first w n on
+    ap (λ (m : Machine). direct_after given n (in_world m w)) from ∙ running-direct given first w n on
     ∙ ap (λ p. in_world (running p) w) reached ∙ sym (ap (λ (m : Machine). in_world m w) to)
 
 -- and each of its steps moves on
 pub walk-moves : (old : Machine) (first : Process) (state final : UserState) (n : ℕ)
     → final ≡ walked n state → ((k : ℕ) → k < n → moves (user_step (walked k state)) ≡ true)
     → old ≡ running first → first.state ≡ state
-    → (w : World) (k : ℕ) → k < n → moves_on (direct_after k (in_world old w)).machine ≡ true
-walk-moves old first state final n at each from begins w k low =
+    → (given : Setting) (w : World) (k : ℕ) → k < n → moves_on (direct_after given k (in_world old w)).machine ≡ true
+walk-moves old first state final n at each from begins given w k low =
     let on : (j : ℕ) → j < n → moves (user_step (walked j first.state)) ≡ true = λ j below. rw begins (each j below) in
-    let there = running-direct first w k (λ j below. on j (omega arith)) in
-    ap (λ (m : Machine). moves_on (direct_after k (in_world m w)).machine) from ∙ ap (λ (s : DirectState). moves_on s.machine) there ∙ on k low
+    let there = running-direct given first w k (λ j below. on j (omega arith)) in
+    ap (λ (m : Machine). moves_on (direct_after given k (in_world m w)).machine) from ∙ ap (λ (s : DirectState). moves_on s.machine) there ∙ on k low
 
 -- a user step that moves on leads to the state after it
 next-after : (u : UserStep) (state : UserState) → moves u ≡ true → u ≡ next (state_after u state)

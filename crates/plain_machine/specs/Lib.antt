@@ -1,7 +1,12 @@
 pub mod UserStep
-pub mod CallTable
 pub mod KernelPart
 pub mod Messages
+pub mod Programs
 pub mod Direct
+pub mod Starts
+pub mod Asks
+pub mod Stands
+pub mod Outsides
+pub mod Rows
 pub mod Machines
 pub mod Laws

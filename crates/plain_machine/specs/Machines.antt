@@ -1,12 +1,15 @@
--- How the machine's parts stand for a direct state, and which faults a step can meet.
-use Rattle.std.specs.Prelude.{◌≡◌, ℕ, ⊤, List, [], ◌∷◌, Option, Some, None}
-use Rattle.plain_machine.specs.CallTable.{Process}
-use Rattle.plain_machine.specs.Direct.{World, DirectState, Machine, running, dying, ended}
+-- How the parts of a machine stand for a direct state.
+use Rattle.std.specs.Prelude.{◌≡◌, ℕ, List, [], ◌∷◌, Option, Some, None}
+use Rattle.plain_machine.specs.Direct.{Machine, running, dying, ended}
+use Rattle.plain_machine.specs.KernelPart.{Part as DirectPart, gives, breaks, posts, scans}
+use Rattle.plain_machine.specs.KernelPart.{Scanned as DirectScanned, ends, leaves, is_long}
+use Rattle.plain_machine.specs.Programs.{Process}
+use Rattle.plain_machine.specs.declared.kernel_part.Part.{Part}
+use Rattle.plain_machine.specs.declared.kernel_part.Part.TheVariants.{Gives, Breaks, Posts}
+use Rattle.plain_machine.specs.declared.kernel_part.Scanned.{Scanned}
+use Rattle.plain_machine.specs.declared.kernel_part.Scanned.TheVariants.{Ends, Leaves, IsLong}
 use Rattle.plain_machine.specs.declared.machine.Phase.{Phase}
 use Rattle.plain_machine.specs.declared.machine.Phase.TheVariants.{Running, Dying, Ended}
-use Rattle.plain_machine.specs.declared.plain.PlainFault.{PlainFault}
-use Rattle.plain_machine.specs.declared.plain.PlainFault.TheVariants.{FileFault, InputFault, ConsoleFault, OutOfMemory}
-use Rattle.plain_machine.specs.declared.plain.PlainFault.TheVariants.{NotBuilt}
 
 -- the machine of a program, by its phase
 abbrev pub machine_of : Process → Phase → Machine
@@ -24,17 +27,19 @@ abbrev pub BeginsWith : List ℕ → List ℕ → Option ℕ → Type 0
 BeginsWith text rest None = text ≡ []
 BeginsWith text rest (Some byte) = text ≡ byte ∷ rest
 
--- the machine and the console stand at this state, and the rest of the world is as it was
-pub record Reaches (state : DirectState) (w : World) (machine : Machine) (console : Option (List ℕ)) : Type 0 where
-  pub machine_is : machine ≡ state.machine
-  pub console_told : console ≡ Some state.world.console
-  pub input : state.world.input ≡ w.input
-  pub tree : state.world.tree ≡ w.tree
+-- a kernel part as the code has it
+abbrev pub part_in : Part → DirectPart
+part_in (Gives answer) = gives answer
+part_in (Breaks moved) = breaks moved
+part_in (Posts request) = posts request
 
--- no step that is built reads input, calls the folder or takes memory, so only these faults are answered
-abbrev pub IsPossible : PlainFault → Type 0
-IsPossible ConsoleFault = ⊤
-IsPossible NotBuilt = ⊤
-IsPossible FileFault = ⊥
-IsPossible InputFault = ⊥
-IsPossible OutOfMemory = ⊥
+-- the same of a call whose path is scanned where there is none
+abbrev pub part_or_scan : Option Part → DirectPart
+part_or_scan None = scans
+part_or_scan (Some part) = part_in part
+
+-- what a scan came to, as the code has it
+abbrev pub scanned_in : Scanned → DirectScanned
+scanned_in (Ends length) = ends length
+scanned_in Leaves = leaves
+scanned_in IsLong = is_long

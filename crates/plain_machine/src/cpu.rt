@@ -1,19 +1,31 @@
 // What a user program sees of the hart, and its steps.
-ghost use Rattle.std.specs.Prelude.{◌≡◌, ◌≢◌, ◌<◌, ◌≤◌, ◌-◌, ◌^◌, ℕ, length, IsTrue, IsSome, IsNone, IfSome, Some, true, false, take, drop, slice_set};
+ghost use Rattle.std.specs.Prelude.{◌≡◌, ◌≢◌, ◌<◌, ◌≤◌, ◌-◌, ◌^◌, ℕ, length, IsTrue, IsSome, IsNone, IfSome, IfOk, OnErr, None, Some, true, false, slice_index, slice_set};
+ghost use Rattle.std.specs.Result.{result_err};
 ghost use Rattle.fe_base.specs.MemoryMap.{user_start, kernel_start};
 ghost use Rattle.guest_memory.specs.Bus.{is_ram};
 ghost use Rattle.guest_memory.specs.Memory.{is_width, zeros};
 ghost use Rattle.rv_alu.specs.Effects.{IsInRange};
-ghost use Rattle.plain_machine.specs.CallTable.{is_buffer};
-ghost use Rattle.plain_machine.specs.Direct.{answered};
+ghost use Rattle.host_text.specs.World.{Contents};
+ghost use Rattle.syscall_proxy.specs.CallTable.{service_of};
+ghost use Rattle.syscall_proxy.specs.Rows.{word};
+ghost use Rattle.plain_machine.specs.Asks.{request_cuts, row_asks};
+ghost use Rattle.plain_machine.specs.Outsides.{Asking, Called, InWorld, outside as objects};
+ghost use Rattle.plain_machine.specs.Programs.{answered};
+ghost use Rattle.plain_machine.specs.Rows.{IsInside, RowRan};
+ghost use Rattle.plain_machine.specs.Stands.{Spares, Tells};
 ghost use Rattle.plain_machine.specs.UserStep as spec;
 ghost use Rattle.plain_machine.specs.UserStep.{user_step, load_step, store_step, effect_step, step_of, Stays, walked, moves};
 
+use crate::PlainFault;
+use crate::host_calls::call_on;
 use fe_base::memory_map::{USER_END, USER_START};
+use fe_base::{Sink, Source};
+use folder_tree::Folder;
 use guest_memory::Bus;
 use rv_alu::{Cause, Effect, Size, Trap, act, loaded, put};
 use rv_decode::{Decoder, INSTRUCTION_ALIGNMENT};
 use std::marker::Model;
+use syscall_proxy::{CallAnswer, Host};
 
 /// What a user step did.
 #[derive(Clone, Copy)]
@@ -125,18 +137,48 @@ impl Cpu {
         self.registers[n as usize]
     }
 
-    /// So many bytes of the user area from an address, where they all stand in it.
+    /// The byte of the user area at an address, where one stands there.
     #[tactic(auto, unfolding(guest_memory::specs::Bus::bus_bytes))]
-    pub fn bytes(&self, at: u64, count: u64) -> Option<&[u8]>
-        ensures inside { IsTrue (is_buffer at count) → IsSome result }
-        ensures outside { is_buffer at count ≡ false → IsNone result }
-        ensures bytes { IfSome result (λ bytes. bytes.now ≡ take count (drop (at - user_start) self.now.user)) }
-        ensures len { IfSome result (λ bytes. length bytes.now ≡ count) }
+    pub fn byte(&self, at: u64) -> Option<u8>
+        ensures outside { spec.is_user at ≡ false → result ≡ None }
+        ensures inside { spec.is_user at ≡ true → result ≡ Some (slice_index self.now.user (at - user_start)) }
     {
-        if at < USER_START || at > USER_END || count > USER_END - at {
+        if at < USER_START || at >= USER_END {
             return None;
         }
-        Some(self.bus.bytes(at, count))
+        Some(self.bus.bytes(at, 1)[0])
+    }
+
+    /// The host's call of a request over the user area, which leaves pc and registers as they are.
+    pub fn serve<F: Folder, I: Source, C: Sink>(
+        &mut self,
+        host: &mut Host,
+        folder: &mut F,
+        input: &mut I,
+        console: &mut C,
+        request: [u64; 8],
+    ) -> Result<CallAnswer, PlainFault>
+        requires { IsInside host.old.given request }
+        ensures given { host.new.given ≡ host.old.given }
+        ensures stays { self.new ≡ (record self.old { user = self.new.user }) }
+        ensures row { IfOk result (λ answer. (c : Contents)
+            → Tells c (I.left input.old) (C.held console.old) (F.tree folder.old)
+            → RowRan host.old host.new request c self.old.user self.new.user answer (I.left input.new) (C.held console.new)
+            (F.tree folder.new)) }
+        ensures kept { OnErr result (self.new ≡ self.old) }
+        ensures numbers { OnErr result (host.new.numbers ≡ host.old.numbers) }
+        ensures spared { OnErr result ((c : Contents)
+            → Tells c (I.left input.old) (C.held console.old) (F.tree folder.old)
+            → Spares (request_cuts request) c (I.left input.new) (C.held console.new) (F.tree folder.new)) }
+        ensures called { Called F.Folder I.Source C.Sink (objects folder.old input.old console.old)
+            (objects folder.new input.new console.new) (result_err result) }
+        ensures asking { Asking F.Folder I.Source C.Sink
+            (row_asks (service_of (word request 0)) host.old.numbers request self.old.user)
+            (objects folder.old input.old console.old) (objects folder.new input.new console.new) (result_err result) }
+        ensures in_world { InWorld F.Folder I.Source C.Sink host.old.numbers host.new.numbers
+            (objects folder.old input.old console.old) (objects folder.new input.new console.new) (result_err result) }
+    {
+        call_on(&mut self.bus, host, folder, input, console, request)
     }
 
     /// A call's answer in a0, at the next instruction.

@@ -1,15 +1,22 @@
 // A program that runs, says its last words, or has ended.
-ghost use Rattle.std.specs.Prelude.{◌≡◌, ◌≢◌, ◌≤◌, ◌<◌, [], ℕ, List, Some, ◌∷◌, IsErrOf, IfErr, IsOk, OnOk, OnErr, length, true, false, ◌↔◌};
-ghost use Rattle.fe_base.specs.Outside.{capacity, HasCause, Puts, PutSuits, Rose};
-ghost use Rattle.plain_machine.specs.Direct.{World, machine_step, is_built, status_of, step_puts, in_world, direct_after, moves_on};
-ghost use Rattle.plain_machine.specs.Machines.{Reaches, IsPossible};
+ghost use Rattle.std.specs.Prelude.{◌≡◌, ◌≤◌, ◌<◌, ℕ, List, ◌∷◌, IsOk, OnOk, OnErr, true, false};
+ghost use Rattle.std.specs.Result.{result_err};
+ghost use Rattle.fe_base.specs.Outside.{capacity, HasCause, Puts, PutSuits};
+ghost use Rattle.host_text.specs.World.{Contents, World};
+ghost use Rattle.syscall_proxy.specs.Kept.{Setting};
+ghost use Rattle.plain_machine.specs.Asks.{step_asks, step_cuts};
+ghost use Rattle.plain_machine.specs.Direct.{machine_step, status_of, in_world, direct_after, moves_on};
+ghost use Rattle.plain_machine.specs.Outsides.{Asking, Called, InWorld, outside};
+ghost use Rattle.plain_machine.specs.Stands.{Reaches, Spares, Tells};
 
 use crate::PlainFault;
 use crate::calls::{Process, call};
 use crate::cpu::{Cpu, Outcome};
 use crate::messages::{Message, last_words};
-use fe_base::{Failed, Sink};
+use fe_base::{Failed, Sink, Source};
+use folder_tree::Folder;
 use std::marker::Model;
+use syscall_proxy::Host;
 
 /// Where a program stands in its life.
 #[derive(Drop)]
@@ -81,8 +88,9 @@ impl Machine {
     /// Steps, at most so many, as long as each is an instruction that moves the program on; how many were made. They
     /// leave the console, the input and the files alone.
     pub fn walk(&mut self, most: u64) -> u64
-        ensures after { (w : World) → direct_after result (in_world self.old w) ≡ in_world self.new w }
-        ensures each { (w : World) (n : ℕ) → n < result → moves_on (direct_after n (in_world self.old w)).machine ≡ true }
+        ensures after { (given : Setting) (w : World) → direct_after given result (in_world self.old w) ≡ in_world self.new w }
+        ensures each { (given : Setting) (w : World) (n : ℕ) → n < result
+            → moves_on (direct_after given n (in_world self.old w)).machine ≡ true }
         ensures most { result ≤ most }
         ensures stopped { result < most → moves_on self.new ≡ false }
         ensures status { status_of self.new ≡ status_of self.old }
@@ -95,28 +103,35 @@ impl Machine {
 
     /// One step: an instruction, a call, one byte of the last words, or the end behind them.
     #[inline(always)]
-    #[tactic(auto, using(crate::proofs::MessageLemmas::byte_by_byte))]
-    pub fn step<C: Sink>(&mut self, console: &mut C) -> Result<(), PlainFault>
-        ensures step { OnOk result ((w : World) → C.held console.old ≡ Some w.console
-            → Reaches (machine_step self.old w) w self.new (C.held console.new)) }
-        ensures not_built { IsErrOf result PlainFault.NotBuilt ↔ (is_built self.old ≡ false) }
-        ensures possible { IfErr result IsPossible }
+    pub fn step<F: Folder, I: Source, C: Sink>(
+        &mut self,
+        host: &mut Host,
+        folder: &mut F,
+        input: &mut I,
+        console: &mut C,
+    ) -> Result<(), PlainFault>
+        ensures given { host.new.given ≡ host.old.given }
+        ensures step { OnOk result ((c : Contents)
+            → Tells c (I.left input.old) (C.held console.old) (F.tree folder.old)
+            → Reaches (machine_step host.old.given self.old (record { contents = c; numbers = host.old.numbers }))
+            self.new host.new.numbers (I.left input.new) (C.held console.new) (F.tree folder.new)) }
         ensures kept { OnErr result (self.new ≡ self.old) }
-        ensures told { OnErr result ((held : List ℕ) → C.held console.old ≡ Some held → C.held console.new ≡ Some held) }
-        ensures asked { IsErrOf result PlainFault.ConsoleFault → step_puts self.old ≢ [] }
-        ensures quiet { step_puts self.old ≡ [] → console.new ≡ console.old }
-        ensures later { C.faults console.old ≤ C.faults console.new }
-        ensures fault { IsErrOf result PlainFault.ConsoleFault → Rose (C.faults console.old) (C.faults console.new) }
-        ensures steady { C.steady console.old → OnOk result (C.steady console.new) }
-        ensures capacity { capacity (C.held console.new) (C.room console.new) ≡ capacity (C.held console.old) (C.room console.old) }
-        ensures suits { C.steady console.old → PutSuits (C.room console.old) (length (step_puts self.old))
-            → IsErrOf result PlainFault.ConsoleFault → ⊥ }
+        ensures numbers { OnErr result (host.new.numbers ≡ host.old.numbers) }
+        ensures spared { OnErr result ((c : Contents)
+            → Tells c (I.left input.old) (C.held console.old) (F.tree folder.old)
+            → Spares (step_cuts self.old) c (I.left input.new) (C.held console.new) (F.tree folder.new)) }
+        ensures called { Called F.Folder I.Source C.Sink (outside folder.old input.old console.old)
+            (outside folder.new input.new console.new) (result_err result) }
+        ensures asking { Asking F.Folder I.Source C.Sink (step_asks host.old.numbers self.old)
+            (outside folder.old input.old console.old) (outside folder.new input.new console.new) (result_err result) }
+        ensures in_world { InWorld F.Folder I.Source C.Sink host.old.numbers host.new.numbers
+            (outside folder.old input.old console.old) (outside folder.new input.new console.new) (result_err result) }
     {
         match &mut self.phase {
             Phase::Running => match self.process.cpu.step() {
                 Outcome::Moved => {}
                 Outcome::Called => {
-                    if let Some(status) = call(&mut self.process, console)? {
+                    if let Some(status) = call(&mut self.process, host, folder, input, console)? {
                         self.phase = Phase::Ended(status);
                     }
                 }

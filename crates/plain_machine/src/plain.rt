@@ -1,7 +1,10 @@
 // The direct run over a source, a sink and a folder.
-ghost use Rattle.std.specs.Prelude.{◌≡◌, ◌≢◌, ◌<◌, ◌≤◌, ◌+◌, ◌-◌, ◌^◌, ◌++◌, max, ℕ, List, [], Some, None, IsErrOf, IfErr, IsTrue, Err, ◌⊎◌, ◌↔◌, IfOk, OnOk, OnErr, is_some, length, if◌then◌else◌, Bool, false, true};
-ghost use Rattle.fe_base.specs.Outside.{capacity, PutSuits, Rose};
-ghost use Rattle.plain_machine.specs.Machines.{IsPossible};
+ghost use Rattle.std.specs.Prelude.{◌≡◌, ◌≢◌, ◌<◌, ◌≤◌, ◌+◌, ◌-◌, ◌×◌, ◌^◌, max, ℕ, [], Some, None, Err, ◌↔◌, IfOk, OnOk, OnErr, is_some, length, if◌then◌else◌};
+ghost use Rattle.std.specs.Result.{result_err};
+ghost use Rattle.fe_base.specs.Outside.{capacity};
+ghost use Rattle.host_text.specs.World.{Contents, first_numbers};
+ghost use Rattle.syscall_proxy.specs.Kept.{Setting};
+ghost use Rattle.plain_machine.specs.Outsides.{Asking, Called, InWorld, outside};
 
 use crate::cpu::Cpu;
 use crate::machine::Machine;
@@ -12,6 +15,7 @@ use fe_base::{Sink, Source, Words};
 use folder_tree::{Folder, Path};
 use std::alloc::{AllocError, Global};
 use std::marker::Model;
+use syscall_proxy::Host;
 
 /// Why a step was not made.
 #[derive(Clone, Copy, Debug, PartialEq, Eq)]
@@ -24,8 +28,6 @@ pub enum PlainFault {
     ConsoleFault,
     /// The folder found no memory.
     OutOfMemory,
-    /// The step is a call that is not built.
-    NotBuilt,
 }
 
 /// How a run ended.
@@ -39,19 +41,20 @@ pub enum PlainEnd {
     Fault(PlainFault),
 }
 
-/// A program on the direct machine, with the number of steps that it has made.
+/// A program on the direct machine, with the host of its calls and the number of steps that it has made.
 #[derive(Drop)]
 pub struct Plain {
     machine: Machine,
+    host: Host,
     steps: u64,
 }
 
 impl Model for Plain {
-    ghost use Rattle.plain_machine.specs.Direct.{PlainState};
+    ghost use Rattle.plain_machine.specs.Stands.{PlainState};
 
     ghost Value = { PlainState };
 
-    ghost view = { λ p. record { machine = p.machine; steps = p.steps } };
+    ghost view = { λ p. record { machine = p.machine; given = p.host.given; numbers = p.host.numbers; steps = p.steps } };
 }
 
 impl Plain {
@@ -59,20 +62,26 @@ impl Plain {
     ghost use Rattle.elf_loader.specs.Rules.{user_rules};
     ghost use Rattle.fe_base.specs.WordLists.{main_vars_length};
     ghost use Rattle.folder_tree.specs.Paths.{path_text};
-    ghost use Rattle.plain_machine.specs.Direct.{World, Tells, IsAt, HasRoomFor, ended, status_of, direct_step, direct_after, direct_of, is_built, moves_on, step_puts, first_machine};
+    ghost use Rattle.plain_machine.specs.Asks.{asks_folder, asks_input, puts_of, step_cuts};
+    ghost use Rattle.std.specs.Prelude.{true, false};
+    ghost use Rattle.plain_machine.specs.Direct.{DirectState, direct_after, direct_step, ended, moves_on, status_of};
+    ghost use Rattle.plain_machine.specs.Starts.{first_machine};
+    ghost use Rattle.plain_machine.specs.Stands.{HasRoomFor, IsAt, NeverAsks, NeverPuts, PlainRan, Spares, Tells, asks, direct_of, end_fault, made};
 
     /// A program before its first step: its image and its arguments stand in the user area. The root is where the paths
-    /// of its calls begin; no call that is built names a path, so nothing keeps it.
+    /// of its calls begin. It takes the memory of the machine, and of its host.
     pub fn start(alloc: Global, image: Image, args: &Words, root: Path) -> Result<Plain, AllocError>
         requires fit { IsFit user_rules image }
         requires arguments { main_vars_length args.now ≤ MAIN_VARS_LIMIT }
         requires root_length { length (path_text root) ≤ PATH_TEXT_LIMIT }
-        ensures { IfOk result (λ plain. plain ≡ record { machine = first_machine image args.now; steps = 0 }) }
+        ensures { IfOk result (λ plain. plain ≡ record { machine = first_machine image args.now; given = record { args = args.now; root = root }; numbers = first_numbers; steps = 0 }) }
     {
+        let host = Host::new(alloc, args, root)?;
         let bus = first_bus(alloc, &image.segments, args)?;
         let cpu = Cpu::new(image.entry, STACK_TOP, bus);
         Ok(Plain {
             machine: Machine::new(cpu, image.first_break),
+            host,
             steps: 0,
         })
     }
@@ -93,47 +102,33 @@ impl Plain {
     ) -> Result<Option<u8>, PlainFault>
         requires { self.old.steps < 2 ^ 64 - 1 }
         // Over told objects the step is the direct step.
-        ensures step { OnOk result ((w : World)
-            → Tells w (I.left input.old) (C.held console.old) (F.tree folder.old)
-            → IsAt (direct_step (direct_of self.old w)) self.new (I.left input.new) (C.held console.new) (F.tree folder.new)) }
+        ensures step { OnOk result ((c : Contents)
+            → Tells c (I.left input.old) (C.held console.old) (F.tree folder.old)
+            → IsAt (direct_step self.old.given (direct_of self.old c)) self.new (I.left input.new) (C.held console.new) (F.tree folder.new)) }
         ensures status { IfOk result (λ status. status ≡ status_of self.new.machine) }
         ensures counted { OnOk result (self.new.steps ≡ (if is_some (status_of self.old.machine) then self.old.steps else self.old.steps + 1)) }
+        ensures given { self.new.given ≡ self.old.given }
 
-        // A fault leaves the machine and what the objects tell; the next step is not built exactly where that is
-        // answered.
+        // A fault leaves the machine, its open numbers and what the objects tell; but an openat that takes a file's
+        // bytes away may leave the file open once more.
         ensures kept { OnErr result (self.new ≡ self.old) }
-        ensures told { OnErr result ((w : World)
-            → Tells w (I.left input.old) (C.held console.old) (F.tree folder.old)
-            → Tells w (I.left input.new) (C.held console.new) (F.tree folder.new)) }
-        ensures not_built { IsErrOf result PlainFault.NotBuilt ↔ (is_built self.old.machine ≡ false) }
+        ensures spared { OnErr result ((c : Contents)
+            → Tells c (I.left input.old) (C.held console.old) (F.tree folder.old)
+            → Spares (step_cuts self.old.machine) c (I.left input.new) (C.held console.new) (F.tree folder.new)) }
 
-        // Each fault of the outside comes only where that object's count rose, and the counts never fall.
-        ensures console_fault { IsErrOf result PlainFault.ConsoleFault → Rose (C.faults console.old) (C.faults console.new) }
-        ensures input_fault { IsErrOf result PlainFault.InputFault → Rose (I.faults input.old) (I.faults input.new) }
-        ensures file_fault { IsErrOf result PlainFault.FileFault → Rose (F.faults folder.old) (F.faults folder.new) }
-        ensures out_of_memory { IsErrOf result PlainFault.OutOfMemory → Rose (F.short folder.old) (F.short folder.new) }
-        ensures console_count { C.faults console.old ≤ C.faults console.new }
-        ensures input_count { I.faults input.old ≤ I.faults input.new }
-        ensures folder_count { F.faults folder.old ≤ F.faults folder.new }
-        ensures short_count { F.short folder.old ≤ F.short folder.new }
-
-        // No step that is built reads input or calls the folder, and the console is called only for bytes to put.
-        ensures possible { IfErr result IsPossible }
-        ensures input_untouched { input.new ≡ input.old }
-        ensures folder_untouched { folder.new ≡ folder.old }
-        ensures console_untouched { step_puts self.old.machine ≡ [] → console.new ≡ console.old }
-        ensures console_asked { IsErrOf result PlainFault.ConsoleFault → step_puts self.old.machine ≢ [] }
-
-        // A steady console stays steady, and fails no step for which its room suffices.
-        ensures steady { C.steady console.old → (IsErrOf result PlainFault.ConsoleFault → ⊥) → C.steady console.new }
-        ensures capacity { capacity (C.held console.new) (C.room console.new) ≡ capacity (C.held console.old) (C.room console.old) }
-        ensures suits { C.steady console.old → PutSuits (C.room console.old) (length (step_puts self.old.machine))
-            → IsErrOf result PlainFault.ConsoleFault → ⊥ }
+        // The causes of faults; what steady objects do; what the step asks of the objects, and that it touches no other;
+        // and that a world stays one.
+        ensures called { Called F.Folder I.Source C.Sink (outside folder.old input.old console.old)
+            (outside folder.new input.new console.new) (result_err result) }
+        ensures asking { Asking F.Folder I.Source C.Sink (asks self.old) (outside folder.old input.old console.old)
+            (outside folder.new input.new console.new) (result_err result) }
+        ensures in_world { InWorld F.Folder I.Source C.Sink self.old.numbers self.new.numbers
+            (outside folder.old input.old console.old) (outside folder.new input.new console.new) (result_err result) }
     {
         if let Some(status) = self.machine.status() {
             return Ok(Some(status));
         }
-        self.machine.step(console)?;
+        self.machine.step(&mut self.host, folder, input, console)?;
         self.steps += 1;
         Ok(self.machine.status())
     }
@@ -146,50 +141,47 @@ impl Plain {
         input: &mut I,
         console: &mut C,
     ) -> PlainEnd
-        // Over told objects the machine and the objects stand where so many direct steps lead, whatever is answered.
-        // Before each of these steps the machine had not ended, and the step was built.
-        ensures run { (w : World)
-            → Tells w (I.left input.old) (C.held console.old) (F.tree folder.old)
-            → IsAt (direct_after (self.new.steps - self.old.steps) (direct_of self.old w)) self.new (I.left input.new) (C.held console.new) (F.tree folder.new) }
-        ensures earlier { (w : World)
-            → Tells w (I.left input.old) (C.held console.old) (F.tree folder.old)
-            → (n : ℕ) → n < self.new.steps - self.old.steps → status_of (direct_after n (direct_of self.old w)).machine ≡ None }
-        ensures built { (w : World)
-            → Tells w (I.left input.old) (C.held console.old) (F.tree folder.old)
-            → (n : ℕ) → n < self.new.steps - self.old.steps → is_built (direct_after n (direct_of self.old w)).machine ≡ true }
+        // Where machine and told objects stand at a state, they stand behind the run where so many direct steps lead from
+        // there, whatever is answered. Before each of these steps the machine had not ended.
+        ensures ran { (first : DirectState)
+            → IsAt first self.old (I.left input.old) (C.held console.old) (F.tree folder.old)
+            → PlainRan first self.old self.new result (I.left input.new) (C.held console.new) (F.tree folder.new) }
+        ensures given { self.new.given ≡ self.old.given }
         ensures later { self.old.steps ≤ self.new.steps }
         ensures within { self.new.steps ≤ max limit self.old.steps }
 
-        // How the run ended, exactly.
+        // How the run ended, exactly. A fault comes below the limit.
         ensures exited { (status : ℕ) → (result ≡ PlainEnd.Exited status) ↔ (self.new.machine ≡ ended status) }
         ensures spent { (result ≡ PlainEnd.StepsSpent) ↔ ((status_of self.new.machine ≡ None) × (self.new.steps ≡ max limit self.old.steps)) }
-        ensures not_built { (result ≡ PlainEnd.Fault PlainFault.NotBuilt) ↔ ((self.new.steps < limit) × (is_built self.new.machine ≡ false)) }
-
-        // A fault comes below the limit. Each fault of the outside comes only where that object's count rose, and the
-        // counts never fall.
         ensures stopped { (fault : PlainFault) → result ≡ PlainEnd.Fault fault → self.new.steps < limit }
-        ensures console_fault { result ≡ PlainEnd.Fault PlainFault.ConsoleFault → Rose (C.faults console.old) (C.faults console.new) }
-        ensures input_fault { result ≡ PlainEnd.Fault PlainFault.InputFault → Rose (I.faults input.old) (I.faults input.new) }
-        ensures file_fault { result ≡ PlainEnd.Fault PlainFault.FileFault → Rose (F.faults folder.old) (F.faults folder.new) }
-        ensures out_of_memory { result ≡ PlainEnd.Fault PlainFault.OutOfMemory → Rose (F.short folder.old) (F.short folder.new) }
-        ensures console_count { C.faults console.old ≤ C.faults console.new }
-        ensures input_count { I.faults input.old ≤ I.faults input.new }
-        ensures folder_count { F.faults folder.old ≤ F.faults folder.new }
-        ensures short_count { F.short folder.old ≤ F.short folder.new }
 
-        // No step that is built reads input or calls the folder, and the console is called only for bytes to put.
-        ensures possible { (fault : PlainFault) → result ≡ PlainEnd.Fault fault → IsPossible fault }
-        ensures input_untouched { input.new ≡ input.old }
-        ensures folder_untouched { folder.new ≡ folder.old }
-        ensures console_asked { result ≡ PlainEnd.Fault PlainFault.ConsoleFault → step_puts self.new.machine ≢ [] }
+        // The causes of faults; what steady objects do; that a world stays one; and that a fault comes only of what the
+        // step that was not made asks.
+        ensures called { Called F.Folder I.Source C.Sink (outside folder.old input.old console.old)
+            (outside folder.new input.new console.new) (end_fault result) }
+        ensures in_world { InWorld F.Folder I.Source C.Sink self.old.numbers self.new.numbers
+            (outside folder.old input.old console.old) (outside folder.new input.new console.new) (end_fault result) }
+        ensures file_asked { result ≡ PlainEnd.Fault PlainFault.FileFault → asks_folder (asks self.new) ≡ true }
+        ensures memory_asked { result ≡ PlainEnd.Fault PlainFault.OutOfMemory → asks_folder (asks self.new) ≡ true }
+        ensures input_asked { result ≡ PlainEnd.Fault PlainFault.InputFault → asks_input (asks self.new) ≡ true }
+        ensures console_asked { result ≡ PlainEnd.Fault PlainFault.ConsoleFault → puts_of (asks self.new) ≢ [] }
 
-        // A steady console stays steady, and fails no run for which its room suffices: the room for what the direct run
-        // has put after one step more than were made.
-        ensures steady { C.steady console.old → (result ≡ PlainEnd.Fault PlainFault.ConsoleFault → ⊥) → C.steady console.new }
-        ensures capacity { capacity (C.held console.new) (C.room console.new) ≡ capacity (C.held console.old) (C.room console.old) }
-        ensures suits { C.steady console.old → (w : World)
-            → Tells w (I.left input.old) (C.held console.old) (F.tree folder.old)
-            → HasRoomFor (capacity (C.held console.old) (C.room console.old)) (length (direct_after (self.new.steps - self.old.steps + 1) (direct_of self.old w)).world.console)
+        // What none of the steps asks is as it was, the step that was not made among them.
+        ensures folder_untouched { (first : DirectState)
+            → IsAt first self.old (I.left input.old) (C.held console.old) (F.tree folder.old)
+            → NeverAsks asks_folder self.old.given first (made self.old self.new) → folder.new ≡ folder.old }
+        ensures input_untouched { (first : DirectState)
+            → IsAt first self.old (I.left input.old) (C.held console.old) (F.tree folder.old)
+            → NeverAsks asks_input self.old.given first (made self.old self.new) → input.new ≡ input.old }
+        ensures console_untouched { (first : DirectState)
+            → IsAt first self.old (I.left input.old) (C.held console.old) (F.tree folder.old)
+            → NeverPuts self.old.given first (made self.old self.new) → console.new ≡ console.old }
+
+        // A steady console fails no run for which its room suffices: the room for what the direct run has put after one
+        // step more than were made.
+        ensures suits { C.steady console.old → (first : DirectState)
+            → IsAt first self.old (I.left input.old) (C.held console.old) (F.tree folder.old)
+            → HasRoomFor (capacity (C.held console.old) (C.room console.old)) (length (direct_after self.old.given (made self.old self.new + 1) first).world.contents.console)
             → result ≡ PlainEnd.Fault PlainFault.ConsoleFault → ⊥ }
     {
         'steps: while self.steps < limit && self.status().is_none() {
@@ -208,8 +200,10 @@ impl Plain {
     // Steps that move the program on and do nothing else, until the next one is another or this limit's steps were
     // made, those of earlier calls among them.
     fn walk(&mut self, limit: u64)
-        ensures after { (w : World) → direct_after (self.new.steps - self.old.steps) (direct_of self.old w) ≡ direct_of self.new w }
-        ensures each { (w : World) (n : ℕ) → n < self.new.steps - self.old.steps → moves_on (direct_after n (direct_of self.old w)).machine ≡ true }
+        ensures after { (c : Contents) → direct_after self.old.given (self.new.steps - self.old.steps) (direct_of self.old c) ≡ direct_of self.new c }
+        ensures each { (c : Contents) (n : ℕ) → n < self.new.steps - self.old.steps → moves_on (direct_after self.old.given n (direct_of self.old c)).machine ≡ true }
+        ensures given { self.new.given ≡ self.old.given }
+        ensures numbers { self.new.numbers ≡ self.old.numbers }
         ensures later { self.old.steps ≤ self.new.steps }
         ensures within { self.new.steps ≤ max limit self.old.steps }
         ensures stopped { self.new.steps < limit → moves_on self.new.machine ≡ false }

@@ -7,7 +7,7 @@ ghost use Rattle.fe_base.specs.MemoryMap.{user_start, user_end};
 ghost use Rattle.fe_base.specs.WordLists.{main_vars_length};
 ghost use Rattle.guest_memory.specs.Bus.{user_size};
 ghost use Rattle.guest_memory.specs.Memory.{zeros};
-ghost use Rattle.plain_machine.specs.Direct.{placed, loaded};
+ghost use Rattle.plain_machine.specs.Starts.{placed, loaded};
 
 use elf_loader::{Segments, main_vars};
 use fe_base::Words;

@@ -1,10 +1,11 @@
-// Whole programs: how each ends, after how many steps, and what stands on the console.
-ghost use Rattle.std.specs.Prelude.{◌≤◌, length, None};
+// Whole programs without files: how each ends, after how many steps, and what stands on the console.
+ghost use Rattle.std.specs.Prelude.{◌≤◌, length};
 
 use crate::{Plain, PlainEnd, PlainFault};
 use elf_loader::read_elf;
 use fe_base::{ByteSink, ByteSource, Words};
-use folder_tree::{Folder, FolderStop, Path, PathKind};
+use folder_memory::MemoryFolder;
+use folder_tree::Path;
 use std::alloc::{AllocError, Global};
 use std::process::Abort;
 use std::test::Fail;
@@ -26,77 +27,6 @@ const HI: [u32; 10] = [
     0x00100513, 0x00000597, 0x02058593, 0x00300613, 0x04000893, 0x00000073, 0x00000513, 0x05d00893,
     0x00000073, 0x000a6948,
 ];
-
-// A folder that fails each call, and tells nothing.
-#[derive(Drop)]
-struct NoFolder {
-    faults: u64,
-}
-
-impl Folder for NoFolder {
-    ghost tree = { λ _. None };
-
-    ghost faults = { λ f. f.faults };
-
-    ghost short = { λ _. 0 };
-
-    ghost steady = { λ _. ⊥ };
-
-    fn kind(&mut self, _path: &Path) -> Result<PathKind, FolderStop> {
-        self.faults = self.faults.saturating_add(1);
-        Err(FolderStop::Failed)
-    }
-
-    fn open_file(&mut self, _path: &Path) -> Result<u64, FolderStop> {
-        self.faults = self.faults.saturating_add(1);
-        Err(FolderStop::Failed)
-    }
-
-    fn size(&mut self, _number: u64) -> Result<u64, FolderStop> {
-        self.faults = self.faults.saturating_add(1);
-        Err(FolderStop::Failed)
-    }
-
-    fn read_at(&mut self, _number: u64, _at: u64, _into: &mut [u8]) -> Result<usize, FolderStop> {
-        self.faults = self.faults.saturating_add(1);
-        Err(FolderStop::Failed)
-    }
-
-    fn release(&mut self, _number: u64) -> Result<(), FolderStop> {
-        self.faults = self.faults.saturating_add(1);
-        Err(FolderStop::Failed)
-    }
-
-    fn create(&mut self, _path: &Path) -> Result<u64, FolderStop> {
-        self.faults = self.faults.saturating_add(1);
-        Err(FolderStop::Failed)
-    }
-
-    fn write_at(&mut self, _number: u64, _at: u64, _bytes: &[u8]) -> Result<(), FolderStop> {
-        self.faults = self.faults.saturating_add(1);
-        Err(FolderStop::Failed)
-    }
-
-    fn set_size(&mut self, _number: u64, _size: u64) -> Result<(), FolderStop> {
-        self.faults = self.faults.saturating_add(1);
-        Err(FolderStop::Failed)
-    }
-
-    fn remove(&mut self, _path: &Path) -> Result<(), FolderStop> {
-        self.faults = self.faults.saturating_add(1);
-        Err(FolderStop::Failed)
-    }
-
-    fn make_dir(&mut self, _path: &Path) -> Result<(), FolderStop> {
-        self.faults = self.faults.saturating_add(1);
-        Err(FolderStop::Failed)
-    }
-
-    fn remove_dir(&mut self, _path: &Path) -> Result<bool, FolderStop> {
-        self.faults = self.faults.saturating_add(1);
-        Err(FolderStop::Failed)
-    }
-}
 
 #[derive(Drop)]
 struct Case<'a> {
@@ -176,13 +106,16 @@ static CASES: [Case<'static>; 16] = [
         steps: 7,
         console: b"",
     },
-    // read: addi a7, x0, 63; ecall
+    // read of open number 1, which is the console, answers -9: addi a0, x0, 1; lui a1, 0x10; addi a7, x0, 63; ecall;
+    // sub a0, x0, a0; exit(a0)
     Case {
-        words: &[0x03f00893, 0x00000073],
+        words: &[
+            0x00100513, 0x000105b7, 0x03f00893, 0x00000073, 0x40a00533, 0x05d00893, 0x00000073,
+        ],
         limit: 100,
         failing: &[],
-        end: PlainEnd::Fault(PlainFault::NotBuilt),
-        steps: 1,
+        end: PlainEnd::Exited(9),
+        steps: 7,
         console: b"",
     },
     // addi t0, x0, 1; slli t0, t0, 31; sd x0, 0(t0)
@@ -270,7 +203,7 @@ fn cases() -> &'static [Case<'static>] {
     &CASES
 }
 
-fn file(alloc: Global, words: &[u32]) -> Result<Vec<u8>, AllocError>
+pub fn file(alloc: Global, words: &[u32]) -> Result<Vec<u8>, AllocError>
     requires { length words.now ≤ 63 }
 {
     let mut headers = HEADERS;
@@ -284,7 +217,7 @@ fn file(alloc: Global, words: &[u32]) -> Result<Vec<u8>, AllocError>
 }
 
 // A program with two arguments, before its first step.
-fn started(rt: &impl Abort, alloc: Global, words: &[u32]) -> Result<Plain, Fail> {
+pub fn started(rt: &impl Abort, alloc: Global, words: &[u32]) -> Result<Plain, Fail> {
     assert!(rt; words.len() < 64);
     let image = read_elf(alloc, &file(alloc, words)?)?;
     let mut args = Words::new(alloc);
@@ -296,14 +229,13 @@ fn started(rt: &impl Abort, alloc: Global, words: &[u32]) -> Result<Plain, Fail>
 // Runs a program, and compares what it leaves.
 fn run_case(rt: &impl Abort, alloc: Global, case: &Case) -> Result<(), Fail> {
     let mut plain = started(rt, alloc, case.words)?;
-    let mut folder = NoFolder { faults: 0 };
+    let mut folder = MemoryFolder::new(alloc, &[])?;
     let mut input = ByteSource::new(alloc, &[], &[])?;
     let mut console = ByteSink::new(alloc, 64, case.failing)?;
     let end = plain.run(case.limit, &mut folder, &mut input, &mut console);
     assert!(rt; end == case.end);
     assert!(rt; plain.steps() == case.steps);
     assert!(rt; console.as_slice() == case.console);
-    assert!(rt; folder.faults == 0);
     Ok(())
 }
 

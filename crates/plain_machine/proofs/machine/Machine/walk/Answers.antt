@@ -13,8 +13,8 @@ returns-in-Running-clause-each c =
 
 pub returns-in-Dying : goal.returns-in-Dying
 returns-in-Dying c = record {
-  after = λ w. direct_after-zero _;
-  each = λ w n low. absurd (omega arith);
+  after = λ given w. direct_after-zero given _;
+  each = λ given w n low. absurd (omega arith);
   most = omega arith;
   stopped = search rules;
   status = search rules;
