@@ -1,3 +1,12 @@
+pub mod BusRanges
+pub mod OnlyCalls
+pub mod Followed
+pub mod Served
+pub mod Reached
+pub mod Parts
+pub mod Consoles
 pub mod Places
+pub mod Runs
+pub mod Joins
 pub mod Walks
 pub mod TrapLaws

@@ -2,15 +2,10 @@
 use Rattle.std.specs.Prelude.{◌≡◌, ℕ, ◌==◌, ◌&&◌, if◌then◌else◌, Bool, true, false, List, [], ◌∷◌}
 use Rattle.host_text.specs.declared.open_numbers.Open.{Open}
 use Rattle.host_text.specs.declared.open_numbers.Open.TheVariants.{Closed, Input, Console, File}
-use Rattle.syscall_proxy.specs.CallTable.{service_of}
 use Rattle.syscall_proxy.specs.HostRow.{user_bytes}
 use Rattle.syscall_proxy.specs.Kept.{open_at}
 use Rattle.syscall_proxy.specs.OpenFlags.{cuts}
 use Rattle.syscall_proxy.specs.Rows.{word, low, bounded}
-use Rattle.syscall_proxy.specs.declared.service.Service.{Service}
-use Rattle.syscall_proxy.specs.declared.service.Service.TheVariants.{MakeDir, Unlink, Truncate, Access, OpenAt, Close}
-use Rattle.syscall_proxy.specs.declared.service.Service.TheVariants.{Seek, Read, Write, ReadPlace, WritePlace, Stat, Exit}
-use Rattle.syscall_proxy.specs.declared.service.Service.TheVariants.{MainVars, Unknown}
 use Rattle.plain_machine.specs.Direct.{Machine, running, dying, ended}
 use Rattle.plain_machine.specs.KernelPart.{Part, gives, breaks, posts, scans}
 use Rattle.plain_machine.specs.Programs.{Process, part_of}
@@ -48,30 +43,33 @@ write_asks (File file) user buffer count = the_folder
 abbrev pub number_of : List Open → List ℕ → Open
 number_of numbers request = open_at numbers (low (word request 1))
 
--- what the row of a request asks, by its call, with these open numbers and user bytes
-abbrev pub row_asks : Service → List Open → List ℕ → List ℕ → Asked
-row_asks MakeDir numbers request user = the_folder
-row_asks Unlink numbers request user = the_folder
-row_asks Truncate numbers request user = file_asks (number_of numbers request)
-row_asks Access numbers request user = the_folder
-row_asks OpenAt numbers request user = the_folder
-row_asks Close numbers request user = file_asks (number_of numbers request)
-row_asks Seek numbers request user = file_asks (number_of numbers request)
-row_asks Read numbers request user = read_asks (number_of numbers request) (bounded (word request 3))
-row_asks Write numbers request user =
-    write_asks (number_of numbers request) user (word request 2) (bounded (word request 3))
-row_asks ReadPlace numbers request user = file_asks (number_of numbers request)
-row_asks WritePlace numbers request user = file_asks (number_of numbers request)
-row_asks Stat numbers request user = file_asks (number_of numbers request)
-row_asks Exit numbers request user = nothing
-row_asks MainVars numbers request user = nothing
-row_asks Unknown numbers request user = nothing
+-- what the row of a request asks, by its number, with these open numbers and user bytes: mkdirat, unlinkat, faccessat and
+-- openat ask the folder, and so do ftruncate, close, lseek, pread64, pwrite64 and fstat of a file
+abbrev pub asks_by : ℕ → List Open → List ℕ → List ℕ → Asked
+asks_by number numbers request user =
+    if number == 34 then the_folder
+    else if number == 35 then the_folder
+    else if number == 46 then file_asks (number_of numbers request)
+    else if number == 48 then the_folder
+    else if number == 56 then the_folder
+    else if number == 57 then file_asks (number_of numbers request)
+    else if number == 62 then file_asks (number_of numbers request)
+    else if number == 63 then read_asks (number_of numbers request) (bounded (word request 3))
+    else if number == 64 then write_asks (number_of numbers request) user (word request 2) (bounded (word request 3))
+    else if number == 67 then file_asks (number_of numbers request)
+    else if number == 68 then file_asks (number_of numbers request)
+    else if number == 80 then file_asks (number_of numbers request)
+    else nothing
+
+-- what the row of a request asks
+abbrev pub row_asks : List Open → List ℕ → List ℕ → Asked
+row_asks numbers request user = asks_by (word request 0) numbers request user
 
 -- what a call asks, by its kernel part
 abbrev pub part_asks : List Open → List ℕ → Part → Asked
 part_asks numbers user (gives answer) = nothing
 part_asks numbers user (breaks moved) = nothing
-part_asks numbers user (posts request) = row_asks (service_of (word request 0)) numbers request user
+part_asks numbers user (posts request) = row_asks numbers request user
 part_asks numbers user scans = nothing
 
 -- what a user step asks: a call alone asks something

@@ -1,5 +1,7 @@
 -- What the host's call of a posted request comes to.
-use Rattle.std.specs.Prelude.{◌≡◌, ℕ, List, Option, Some, Result, Ok, Err}
+use Rattle.std.specs.Prelude.{◌≡◌, ℕ, ◌-◌, ◌^◌, List, Option, Some, Result, Ok, Err}
+use Rattle.fe_base.specs.ErrorNumbers.{error_number}
+use Rattle.fe_base.specs.declared.error_numbers.ErrNo.TheVariants.{EFAULT}
 use Rattle.folder_tree.specs.Tree.{Tree}
 use Rattle.host_text.specs.Runs.{Place}
 use Rattle.host_text.specs.World.{Contents}
@@ -9,6 +11,7 @@ use Rattle.syscall_proxy.specs.CallLaws.{AsksInside}
 use Rattle.syscall_proxy.specs.Kept.{Kept, HostState, Setting}
 use Rattle.syscall_proxy.specs.Rows.{word}
 use Rattle.syscall_proxy.specs.declared.answers.CallAnswer.{CallAnswer}
+use Rattle.syscall_proxy.specs.declared.answers.CallAnswer.TheVariants.{Result as Value}
 use Rattle.syscall_proxy.specs.declared.answers.CallFault.{CallFault}
 use Rattle.syscall_proxy.specs.declared.answers.CallFault.TheVariants as call
 use Rattle.plain_machine.specs.Stands.{Tells}
@@ -30,15 +33,11 @@ pub record RowRan (old new : HostState) (request : List ℕ) (contents : Content
   pub numbers_is : new.numbers ≡ after.kept.numbers
   pub told : Tells after.contents input console tree
 
--- what stopped a call stops its step
-abbrev pub fault_in : CallFault → PlainFault
-fault_in (call.Port why) = OutOfMemory
-fault_in call.FileFault = FileFault
-fault_in call.InputFault = InputFault
-fault_in call.ConsoleFault = ConsoleFault
-fault_in call.OutOfMemory = OutOfMemory
-
--- what a call came to, as its step has it
+-- what a call came to, as its step has it; memory that is refused is answered EFAULT
 abbrev pub step_result : Result CallAnswer CallFault → Result CallAnswer PlainFault
 step_result (Ok answer) = Ok answer
-step_result (Err fault) = Err (fault_in fault)
+step_result (Err (call.Port why)) = Ok (Value (2 ^ 64 - error_number EFAULT))
+step_result (Err call.FileFault) = Err FileFault
+step_result (Err call.InputFault) = Err InputFault
+step_result (Err call.ConsoleFault) = Err ConsoleFault
+step_result (Err call.OutOfMemory) = Err OutOfMemory

@@ -6,8 +6,6 @@ ghost use Rattle.guest_memory.specs.Bus.{is_ram};
 ghost use Rattle.guest_memory.specs.Memory.{is_width, zeros};
 ghost use Rattle.rv_alu.specs.Effects.{IsInRange};
 ghost use Rattle.host_text.specs.World.{Contents};
-ghost use Rattle.syscall_proxy.specs.CallTable.{service_of};
-ghost use Rattle.syscall_proxy.specs.Rows.{word};
 ghost use Rattle.plain_machine.specs.Asks.{request_cuts, row_asks};
 ghost use Rattle.plain_machine.specs.Outsides.{Asking, Called, InWorld, outside as objects};
 ghost use Rattle.plain_machine.specs.Programs.{answered};
@@ -173,7 +171,7 @@ impl Cpu {
         ensures called { Called F.Folder I.Source C.Sink (objects folder.old input.old console.old)
             (objects folder.new input.new console.new) (result_err result) }
         ensures asking { Asking F.Folder I.Source C.Sink
-            (row_asks (service_of (word request 0)) host.old.numbers request self.old.user)
+            (row_asks host.old.numbers request self.old.user)
             (objects folder.old input.old console.old) (objects folder.new input.new console.new) (result_err result) }
         ensures in_world { InWorld F.Folder I.Source C.Sink host.old.numbers host.new.numbers
             (objects folder.old input.old console.old) (objects folder.new input.new console.new) (result_err result) }

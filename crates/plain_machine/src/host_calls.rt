@@ -1,18 +1,17 @@
 // The host's calls over the user area of a bus.
 ghost use Rattle.std.specs.Prelude.{◌≡◌, ◌⊎◌, ℕ, List, [], Err, Ok, Some, false, IfOk, OnErr};
 ghost use Rattle.std.specs.Result.{result_err};
-ghost use Rattle.chunk_memory.specs.declared.stops.MemStop.{MemStop};
 ghost use Rattle.fe_base.specs.Outside.{Rose};
 ghost use Rattle.folder_tree.specs.Tree.{Tree};
 ghost use Rattle.guest_memory.specs.Bus.{IsBus};
 ghost use Rattle.host_text.specs.Outside.{acts};
 ghost use Rattle.host_text.specs.Played.{Played, at};
 ghost use Rattle.host_text.specs.World.{Contents};
-ghost use Rattle.syscall_proxy.specs.CallTable.{call_row, service_of};
-ghost use Rattle.syscall_proxy.specs.HostLaws.{NeverFell};
+ghost use Rattle.syscall_proxy.specs.CallTable.{call_row};
+ghost use Rattle.syscall_proxy.specs.HostLaws.{Late, NeverFell, Unmoved};
 ghost use Rattle.syscall_proxy.specs.Kept.{kept};
-ghost use Rattle.syscall_proxy.specs.Rows.{word};
 ghost use Rattle.syscall_proxy.specs.Worlds.{IsWorldOf};
+ghost use Rattle.syscall_proxy.specs.declared.answers.CallFault.{CallFault as Fault};
 ghost use Rattle.plain_machine.specs.Asks.{request_cuts, row_asks};
 ghost use Rattle.plain_machine.specs.Outsides.{Asking, Called, InWorld, outside};
 ghost use Rattle.plain_machine.specs.Rows.{IsInside, RowRan, step_result};
@@ -21,7 +20,7 @@ ghost use Rattle.plain_machine.specs.Stands.{Tells, Spares};
 use crate::PlainFault;
 use chunk_memory::{ChunkPort, Chunked, RamPort};
 use fe_base::memory_map::USER_START;
-use fe_base::{Sink, Source};
+use fe_base::{ErrNo, Sink, Source};
 use folder_tree::Folder;
 use guest_memory::Bus;
 use syscall_proxy::{CallAnswer, CallFault, Host};
@@ -43,6 +42,11 @@ fn call_over<P: ChunkPort, F: Folder, I: Source, C: Sink>(
         (call_row host.old.given host.old.numbers request)
         (at port folder.old input.old console.old (kept host.old.numbers false [])) outcome.new
         (at result folder.new input.new console.new (kept host.new.numbers host.new.acted [])) }
+    ensures fault { (fault : Fault) → outcome.new ≡ Err fault → Unmoved F.Folder I.Source C.Sink
+        (at port folder.old input.old console.old (kept host.old.numbers false []))
+        (at result folder.new input.new console.new (kept host.new.numbers host.new.acted []))
+        ⊎ Late (at port folder.old input.old console.old (kept host.old.numbers false []))
+        (at result folder.new input.new console.new (kept host.new.numbers host.new.acted [])) fault }
     ensures file_fault { outcome.new ≡ Err CallFault.FileFault → Rose (F.faults folder.old) (F.faults folder.new) }
     ensures out_of_memory { outcome.new ≡ Err CallFault.OutOfMemory → Rose (F.short folder.old) (F.short folder.new) }
     ensures input_fault { outcome.new ≡ Err CallFault.InputFault → Rose (I.faults input.old) (I.faults input.new) }
@@ -61,18 +65,17 @@ fn call_over<P: ChunkPort, F: Folder, I: Source, C: Sink>(
     memory.into_port()
 }
 
-// What a call came to. A bus refuses nothing of the user area.
+// What a call came to. Memory that is refused is answered EFAULT; a bus refuses nothing of the user area.
 fn result_of(outcome: Result<CallAnswer, CallFault>) -> Result<CallAnswer, PlainFault>
-    requires { (why : MemStop) → outcome ≡ Err (CallFault.Port why) → ⊥ }
     ensures { result ≡ step_result outcome }
 {
     match outcome {
         Ok(answer) => Ok(answer),
+        Err(CallFault::Port(_)) => Ok(CallAnswer::Result(ErrNo::EFAULT.result())),
         Err(CallFault::FileFault) => Err(PlainFault::FileFault),
         Err(CallFault::InputFault) => Err(PlainFault::InputFault),
         Err(CallFault::ConsoleFault) => Err(PlainFault::ConsoleFault),
         Err(CallFault::OutOfMemory) => Err(PlainFault::OutOfMemory),
-        Err(CallFault::Port(_)) => unreachable!(),
     }
 }
 
@@ -106,7 +109,7 @@ pub fn call_on<F: Folder, I: Source, C: Sink>(
     ensures called { Called F.Folder I.Source C.Sink (outside folder.old input.old console.old)
         (outside folder.new input.new console.new) (result_err result) }
     ensures asking { Asking F.Folder I.Source C.Sink
-        (row_asks (service_of (word request 0)) host.old.numbers request bus.old.user)
+        (row_asks host.old.numbers request bus.old.user)
         (outside folder.old input.old console.old) (outside folder.new input.new console.new) (result_err result) }
     ensures in_world { InWorld F.Folder I.Source C.Sink host.old.numbers host.new.numbers
         (outside folder.old input.old console.old) (outside folder.new input.new console.new) (result_err result) }

@@ -1,5 +1,5 @@
 // The kernel part of a call: what comes of it before the host is asked.
-ghost use Rattle.std.specs.Prelude.{◌≡◌, ◌<◌, ℕ, List};
+ghost use Rattle.std.specs.Prelude.{◌≡◌, ◌<◌, ◌^◌, ℕ, List, slice_index};
 ghost use Rattle.plain_machine.specs.KernelPart as spec;
 ghost use Rattle.plain_machine.specs.KernelPart.{posts, request};
 ghost use Rattle.plain_machine.specs.Machines.{part_in, part_or_scan, scanned_in};
@@ -125,7 +125,8 @@ fn path_part(cpu: &Cpu) -> Part
 
 // The table by number; None where there is a path to scan.
 fn first_part(process: &Process) -> Option<Part>
-    ensures { part_or_scan result ≡ spec.first_part process.now.state.registers process.now.program_break process.now.first_break }
+    ensures part { part_or_scan result ≡ spec.first_part process.now.state.registers process.now.program_break process.now.first_break }
+    ensures address { slice_index process.now.state.registers 11 < 2 ^ 64 }
 {
     let cpu = &process.cpu;
     let number = cpu.register(17);

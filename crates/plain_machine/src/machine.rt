@@ -1,7 +1,8 @@
 // A program that runs, says its last words, or has ended.
-ghost use Rattle.std.specs.Prelude.{◌≡◌, ◌≤◌, ◌<◌, ℕ, List, ◌∷◌, IsOk, OnOk, OnErr, true, false};
+ghost use Rattle.std.specs.Prelude.{◌≡◌, ◌≤◌, ◌<◌, ℕ, List, [], ◌∷◌, IsOk, OnOk, OnErr, true, false};
 ghost use Rattle.std.specs.Result.{result_err};
 ghost use Rattle.fe_base.specs.Outside.{capacity, HasCause, Puts, PutSuits};
+ghost use Rattle.host_text.specs.Outside.{HasPut};
 ghost use Rattle.host_text.specs.World.{Contents, World};
 ghost use Rattle.syscall_proxy.specs.Kept.{Setting};
 ghost use Rattle.plain_machine.specs.Asks.{step_asks, step_cuts};
@@ -47,6 +48,7 @@ impl Model for Machine {
 
 // One byte on the console.
 fn put_byte<C: Sink>(byte: u8, console: &mut C) -> Result<(), Failed>
+    ensures put { HasPut C.Sink console.old console.new (byte ∷ []) result }
     ensures bytes { Puts (C.held console.old) (C.held console.new) (byte ∷ []) result }
     ensures capacity { capacity (C.held console.new) (C.room console.new) ≡ capacity (C.held console.old) (C.room console.old) }
     ensures cause { HasCause (C.faults console.old) (C.faults console.new) result }

@@ -1,5 +1,5 @@
 // The direct run over a source, a sink and a folder.
-ghost use Rattle.std.specs.Prelude.{◌≡◌, ◌≢◌, ◌<◌, ◌≤◌, ◌+◌, ◌-◌, ◌×◌, ◌^◌, max, ℕ, [], Some, None, Err, ◌↔◌, IfOk, OnOk, OnErr, is_some, length, if◌then◌else◌};
+ghost use Rattle.std.specs.Prelude.{◌≡◌, ◌≢◌, ◌<◌, ◌≤◌, ◌+◌, ◌-◌, ◌^◌, max, ℕ, [], Some, None, Err, ◌↔◌, IfOk, OnOk, OnErr, is_some, length, if◌then◌else◌};
 ghost use Rattle.std.specs.Result.{result_err};
 ghost use Rattle.fe_base.specs.Outside.{capacity};
 ghost use Rattle.host_text.specs.World.{Contents, first_numbers};

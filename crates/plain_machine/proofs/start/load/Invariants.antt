@@ -1,5 +1,5 @@
 use Rattle.std.proofs.Common.{◌≡◌, ◌≤◌, drop, length}
-use Rattle.plain_machine.specs.Direct.{loaded}
+use Rattle.plain_machine.specs.Starts.{loaded}
 use Rattle.plain_machine.proofs.start.load.Given as goal
 
 abbrev pub invariant-loop-i : goal.invariant-loop-i

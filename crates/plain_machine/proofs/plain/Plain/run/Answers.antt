@@ -1,0 +1,72 @@
+use Rattle.std.proofs.Common.{◌≡◌, ◌≤◌, ◌<◌, ◌+◌, ◌-◌, ◌∙◌, ℕ, List, [], None, Some, true, false, ap, sym, subst, refl, arith, rules}
+use Rattle.std.specs.Result.{result_err}
+use Rattle.plain_machine.specs.Asks.{Asked, asks_folder, asks_input, puts_of}
+use Rattle.plain_machine.specs.Direct.{DirectState, status_of}
+use Rattle.plain_machine.specs.Outsides.{Called, InWorld, outside}
+use Rattle.plain_machine.specs.Stands.{PlainState, IsAt, asks, made}
+use Rattle.plain_machine.proofs.Consoles.{puts-suit}
+use Rattle.plain_machine.proofs.Joins.{called-none, called-then, world-none, world-then, asks-here}
+use Rattle.plain_machine.proofs.Runs.{StandsAt, StandsAt-begin, StandsAt-walk, StandsAt-next, ran-to, ran-fault, ended-by-status}
+use Rattle.plain_machine.proofs.plain.Plain.run.Goals as goal
+
+pub steps-init : goal.steps-init
+steps-init g c = record {
+  stands = λ first at. StandsAt-begin _ first at;
+  given = refl;
+  later = omega arith;
+  within = omega arith;
+  called = called-none g.F.Folder g.I.Source g.C.Sink _;
+  in_world = world-none g.F.Folder g.I.Source g.C.Sink _ _;
+  folder_untouched = λ first at never. refl;
+  input_untouched = λ first at never. refl;
+  console_untouched = λ first at never. refl;
+}
+
+pub steps-smaller : goal.steps-smaller
+steps-smaller g c =
+    let runs : status_of c.walk.new.self.machine ≡ None = c.walk.ensures.status ∙ (search rules) in
+    let more : c.step.new.self.steps ≡ c.walk.new.self.steps + 1 = search rules in
+    let low : c.steps.self.steps < c.args.limit = search rules in
+    omega (arith, more, low, c.walk.ensures.later, c.walk.ensures.within)
+
+pub steps-preserved : goal.steps-preserved
+steps-preserved g c =
+    let runs : status_of c.walk.new.self.machine ≡ None = c.walk.ensures.status ∙ (search rules) in
+    let more : c.step.new.self.steps ≡ c.walk.new.self.steps + 1 = search rules in
+    let low : c.steps.self.steps < c.args.limit = search rules in
+    let later : c.args.self.now.steps ≤ c.walk.new.self.steps = omega (arith, c.walk.ensures.later, c.steps.invariant.later) in
+    let given : c.walk.new.self.given ≡ c.args.self.now.given = c.walk.ensures.given ∙ c.steps.invariant.given in
+    let fine : result_err c.step.result ≡ None = search rules in
+    let walked : (first : DirectState) → IsAt first c.args.self.now (g.I.Source.left c.args.input.now) (g.C.Sink.held c.args.console.now) (g.F.Folder.tree c.args.folder.now)
+        → StandsAt c.args.self.now first c.walk.new.self (g.I.Source.left c.steps.input) (g.C.Sink.held c.steps.console) (g.F.Folder.tree c.steps.folder) =
+    λ first at. StandsAt-walk _ first c.steps.self c.walk.new.self c.steps.invariant.later c.walk.ensures.later c.steps.invariant.given (λ k. c.walk.ensures.after k) (λ k. c.walk.ensures.each k) (c.steps.invariant.stands first at) in
+    let next : made c.args.self.now c.step.new.self ≡ made c.args.self.now c.walk.new.self + 1 = omega (arith, more, later) in
+    record {
+      stands = λ first at. StandsAt-next _ first c.walk.new.self _ later more given runs c.in_default.ensures.step (walked first at);
+      given = c.step.ensures.given ∙ given;
+      later = omega (arith, more, later);
+      within = omega (arith, more, low, c.walk.ensures.later, c.walk.ensures.within);
+      called = called-then g.F.Folder g.I.Source g.C.Sink _ (outside c.steps.folder c.steps.input c.steps.console) _ None c.steps.invariant.called
+          (subst (λ z. Called g.F.Folder g.I.Source g.C.Sink (outside c.steps.folder c.steps.input c.steps.console) (outside c.step.new.folder c.step.new.input c.step.new.console) z) fine c.step.ensures.called);
+      in_world = world-then g.F.Folder g.I.Source g.C.Sink _ c.walk.new.self.numbers _ _ (outside c.steps.folder c.steps.input c.steps.console) _ None
+          (subst (λ n. InWorld g.F.Folder g.I.Source g.C.Sink c.args.self.now.numbers n (outside c.args.folder.now c.args.input.now c.args.console.now) (outside c.steps.folder c.steps.input c.steps.console) None) (sym c.walk.ensures.numbers) c.steps.invariant.in_world)
+          (subst (λ z. InWorld g.F.Folder g.I.Source g.C.Sink c.walk.new.self.numbers c.step.new.self.numbers (outside c.steps.folder c.steps.input c.steps.console) (outside c.step.new.folder c.step.new.input c.step.new.console) z) fine c.step.ensures.in_world);
+      folder_untouched = λ first at never.
+          c.step.ensures.asking.folder_untouched (asks-here (λ x. asks_folder x ≡ false) _ first c.walk.new.self (walked first at) (never (made c.args.self.now c.walk.new.self) (omega (arith, next))))
+          ∙ c.steps.invariant.folder_untouched first at (λ n before. never n (omega (arith, before, next, c.walk.ensures.later)));
+      input_untouched = λ first at never.
+          c.step.ensures.asking.input_untouched (asks-here (λ x. asks_input x ≡ false) _ first c.walk.new.self (walked first at) (never (made c.args.self.now c.walk.new.self) (omega (arith, next))))
+          ∙ c.steps.invariant.input_untouched first at (λ n before. never n (omega (arith, before, next, c.walk.ensures.later)));
+      console_untouched = λ first at never.
+          c.step.ensures.asking.console_untouched (asks-here (λ x. puts_of x ≡ []) _ first c.walk.new.self (walked first at) (never (made c.args.self.now c.walk.new.self) (omega (arith, next))))
+          ∙ c.steps.invariant.console_untouched first at (λ n before. never n (omega (arith, before, next, c.walk.ensures.later)));
+    }
+
+pub returns-in-Err-clause-ran : goal.returns-in-Err-clause-ran
+returns-in-Err-clause-ran g c = ?
+
+pub returns-in-Err-clause-in_world : goal.returns-in-Err-clause-in_world
+returns-in-Err-clause-in_world g c = ?
+
+pub returns-in-Some-clause-ran : goal.returns-in-Some-clause-ran
+returns-in-Some-clause-ran g c = ?

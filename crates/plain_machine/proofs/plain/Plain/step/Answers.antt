@@ -1,0 +1,8 @@
+use Rattle.plain_machine.proofs.Joins.{world-none}
+use Rattle.plain_machine.proofs.plain.Plain.step.Goals as goal
+
+pub returns-in-Some-clause-in_world : goal.returns-in-Some-clause-in_world
+returns-in-Some-clause-in_world g c = world-none g.F.Folder g.I.Source g.C.Sink _ _
+
+pub returns-in_err-step-clause-spared : goal.returns-in_err-step-clause-spared
+returns-in_err-step-clause-spared g c = ?
