@@ -10,3 +10,4 @@ pub mod Runs
 pub mod Joins
 pub mod Walks
 pub mod TrapLaws
+pub mod FirstWorld

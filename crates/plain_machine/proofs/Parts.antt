@@ -207,22 +207,22 @@ module _ (a b c d program_break first_break : ℕ) (user : List ℕ) (fits : b <
     direct-fine : Good (direct_part number a b c d program_break first_break)
     unfolding service_of
     direct-fine =
-      choose Good (number == 34) (scans) (rest1) (λ e. path-by number (λ length inside. asks-by number 34 (path_request number a b length c d) (eqb-true number 34 e) (λ given. inside))) (λ e34.
-      choose Good (number == 35) (scans) (rest2) (λ e. path-by number (λ length inside. asks-by number 35 (path_request number a b length c d) (eqb-true number 35 e) (λ given. inside))) (λ e35.
-      choose Good (number == 46) (posts (request number a b 0 0 0)) (rest3) (λ e. asks-by number 46 (request number a b 0 0 0) (eqb-true number 46 e) (λ given. tt)) (λ e46.
-      choose Good (number == 48) (scans) (rest4) (λ e. path-by number (λ length inside. asks-by number 48 (path_request number a b length c d) (eqb-true number 48 e) (λ given. inside))) (λ e48.
-      choose Good (number == 56) (scans) (rest5) (λ e. path-by number (λ length inside. asks-by number 56 (path_request number a b length c d) (eqb-true number 56 e) (λ given. inside))) (λ e56.
-      choose Good (number == 57) (posts (request number a 0 0 0 0)) (rest6) (λ e. asks-by number 57 (request number a 0 0 0 0) (eqb-true number 57 e) (λ given. tt)) (λ e57.
-      choose Good (number == 62) (posts (request number a b c 0 0)) (rest7) (λ e. asks-by number 62 (request number a b c 0 0) (eqb-true number 62 e) (λ given. tt)) (λ e62.
-      choose Good (number == 63) (lowered c (λ count. in_area b count (posts (request number a b count 0 0)))) (rest8) (λ e. buffer-by 63 0 (λ given inside. shorter b (min c transfer_limit) transfer_limit inside) e) (λ e63.
-      choose Good (number == 64) (lowered c (λ count. in_area b count (posts (request number a b count 0 0)))) (rest9) (λ e. buffer-by 64 0 (λ given inside. shorter b (min c transfer_limit) transfer_limit inside) e) (λ e64.
-      choose Good (number == 67) (lowered c (λ count. in_area b count (posts (request number a b count d 0)))) (rest10) (λ e. buffer-by 67 d (λ given inside. shorter b (min c transfer_limit) transfer_limit inside) e) (λ e67.
-      choose Good (number == 68) (lowered c (λ count. in_area b count (posts (request number a b count d 0)))) (rest11) (λ e. buffer-by 68 d (λ given inside. shorter b (min c transfer_limit) transfer_limit inside) e) (λ e68.
-      choose Good (number == 80) (in_area b 128 (posts (request number a b 0 0 0))) (rest12) (λ e. area-by Good tt b 128 (posts (request number a b 0 0 0)) (λ inside. asks-by number 80 (request number a b 0 0 0) (eqb-true number 80 e) (λ given. inside))) (λ e80.
-      choose Good (number == 93) (posts (request number a 0 0 0 0)) (rest13) (λ e. asks-by number 93 (request number a 0 0 0 0) (eqb-true number 93 e) (λ given. tt)) (λ e93.
-      choose Good (number == 94) (posts (request number a 0 0 0 0)) (rest14) (λ e. asks-by number 94 (request number a 0 0 0 0) (eqb-true number 94 e) (λ given. tt)) (λ e94.
-      choose Good (number == 214) (breaks (break_after a program_break first_break)) (refused ENOSYS) (λ e. tt) (λ e214.
-      tt)))))))))))))))
+        choose Good (number == 34) (scans) (rest1) (λ e. path-by number (λ length inside. asks-by number 34 (path_request number a b length c d) (eqb-true number 34 e) (λ given. inside))) (λ e34.
+        choose Good (number == 35) (scans) (rest2) (λ e. path-by number (λ length inside. asks-by number 35 (path_request number a b length c d) (eqb-true number 35 e) (λ given. inside))) (λ e35.
+        choose Good (number == 46) (posts (request number a b 0 0 0)) (rest3) (λ e. asks-by number 46 (request number a b 0 0 0) (eqb-true number 46 e) (λ given. tt)) (λ e46.
+        choose Good (number == 48) (scans) (rest4) (λ e. path-by number (λ length inside. asks-by number 48 (path_request number a b length c d) (eqb-true number 48 e) (λ given. inside))) (λ e48.
+        choose Good (number == 56) (scans) (rest5) (λ e. path-by number (λ length inside. asks-by number 56 (path_request number a b length c d) (eqb-true number 56 e) (λ given. inside))) (λ e56.
+        choose Good (number == 57) (posts (request number a 0 0 0 0)) (rest6) (λ e. asks-by number 57 (request number a 0 0 0 0) (eqb-true number 57 e) (λ given. tt)) (λ e57.
+        choose Good (number == 62) (posts (request number a b c 0 0)) (rest7) (λ e. asks-by number 62 (request number a b c 0 0) (eqb-true number 62 e) (λ given. tt)) (λ e62.
+        choose Good (number == 63) (lowered c (λ count. in_area b count (posts (request number a b count 0 0)))) (rest8) (λ e. buffer-by 63 0 (λ given inside. shorter b (min c transfer_limit) transfer_limit inside) e) (λ e63.
+        choose Good (number == 64) (lowered c (λ count. in_area b count (posts (request number a b count 0 0)))) (rest9) (λ e. buffer-by 64 0 (λ given inside. shorter b (min c transfer_limit) transfer_limit inside) e) (λ e64.
+        choose Good (number == 67) (lowered c (λ count. in_area b count (posts (request number a b count d 0)))) (rest10) (λ e. buffer-by 67 d (λ given inside. shorter b (min c transfer_limit) transfer_limit inside) e) (λ e67.
+        choose Good (number == 68) (lowered c (λ count. in_area b count (posts (request number a b count d 0)))) (rest11) (λ e. buffer-by 68 d (λ given inside. shorter b (min c transfer_limit) transfer_limit inside) e) (λ e68.
+        choose Good (number == 80) (in_area b 128 (posts (request number a b 0 0 0))) (rest12) (λ e. area-by Good tt b 128 (posts (request number a b 0 0 0)) (λ inside. asks-by number 80 (request number a b 0 0 0) (eqb-true number 80 e) (λ given. inside))) (λ e80.
+        choose Good (number == 93) (posts (request number a 0 0 0 0)) (rest13) (λ e. asks-by number 93 (request number a 0 0 0 0) (eqb-true number 93 e) (λ given. tt)) (λ e93.
+        choose Good (number == 94) (posts (request number a 0 0 0 0)) (rest14) (λ e. asks-by number 94 (request number a 0 0 0 0) (eqb-true number 94 e) (λ given. tt)) (λ e94.
+        choose Good (number == 214) (breaks (break_after a program_break first_break)) (refused ENOSYS) (λ e. tt) (λ e214.
+        tt)))))))))))))))
 
 -- the kernel part posts a range of the user area, if any
 pub kernel-fine : (registers user : List ℕ) (program_break first_break : ℕ) → slice_index registers 11 < 2 ^ 64 → Fine (kernel_part registers user program_break first_break)

@@ -162,3 +162,14 @@ ran-fault old first mid new fault {input' = input'} {console' = console'} {tree'
       spared = spared;
     } in
     subst (λ (plain : PlainState). PlainRan first old plain (Fault fault) input' console' tree') (sym kept) here
+
+-- how a run says that its program has ended
+pub exits-some : (m : Machine) (s : ℕ) → status_of m ≡ Some s → (status : ℕ) → (Exited s ≡ Exited status) ↔ (m ≡ ended status)
+exits-some m s is status = (
+  λ e. let same : s ≡ status = cc in ended-by-status m status (is ∙ ap Some same),
+  λ e. let same : Some s ≡ Some status = sym is ∙ ap status_of e in let k : s ≡ status = cc in ap Exited k,
+)
+
+-- and that it has not
+pub exits-none : (m : Machine) → status_of m ≡ None → (status : ℕ) → (StepsSpent ≡ Exited status) ↔ (m ≡ ended status)
+exits-none m is status = (λ e. let clash : ⊥ = cc in absurd clash, λ e. let same : None ≡ Some status = sym is ∙ ap status_of e in let clash : ⊥ = cc in absurd clash)

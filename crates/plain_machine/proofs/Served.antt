@@ -107,13 +107,13 @@ is-memory (Err OutOfMemory) e = refl
 console-is : (o : R) → o ≡ Err ConsoleFault → result_err (step_result o) ≡ Some ConsoleStop
 console-is o e = ap (λ z. result_err (step_result z)) e
 
-module _ {P F I C : Type 0} (p : port.Ghosts P) (f : folder.Ghosts F) (i : source.Ghosts I) (c : sink.Ghosts C) (bus : P → BusState)
+module _ {P F I C : Type 0} (p : port.Ghosts P) (f : folder.Ghosts F) (i : source.Ghosts I) (c : sink.Ghosts C)
+    (old new : HostState) (request : List ℕ) (x x' : P) (folder folder' : F) (input input' : I) (console console' : C) (o : R)
+    (played : Played (acts p f i c) (call_row old.given old.numbers request) (at x folder input console (kept old.numbers false [])) o (at x' folder' input' console' (kept new.numbers new.acted [])))
+    (bus : P → BusState)
     (reads : (x x' : P) (at count : ℕ) (r : Result (List ℕ) MemStop) → HasRead p x x' at count r → ReadOn (bus x) (bus x') at count r)
     (writes : (x x' : P) (at : ℕ) (bytes : List ℕ) (r : Result Unit MemStop) → HasWritten p x x' at bytes r → WrittenOn (bus x) (bus x') at bytes r)
-    (old new : HostState) (request : List ℕ) (inside : IsInside old.given request)
-    (x x' : P) (folder folder' : F) (input input' : I) (console console' : C) (o : R)
-    (fits : IsBus (bus x))
-    (played : Played (acts p f i c) (call_row old.given old.numbers request) (at x folder input console (kept old.numbers false [])) o (at x' folder' input' console' (kept new.numbers new.acted []))) where
+    (inside : IsInside old.given request) (fits : IsBus (bus x)) where
   -- the guest's bytes as they stand in the bus
   abbrev Memory : P → List ℕ → Type 0
   Memory y user = IsBus (bus y) × ((bus y).user ≡ user)
@@ -149,11 +149,11 @@ module _ {P F I C : Type 0} (p : port.Ghosts P) (f : folder.Ghosts F) (i : sourc
         told = record { input_told = h.2.input_is; console_told = h.2.console_is; tree_told = h.2.tree_is };
       }
 
-  pub made-or-not : (contents : Contents) (r : Result CallAnswer PlainFault) → r ≡ step_result o
-      → IfOk r (λ answer. Tells contents (i.left input) (c.held console) (f.tree folder) → RowRan old new request contents (bus x).user (bus x').user answer (i.left input') (c.held console') (f.tree folder'))
-  made-or-not contents r e =
-      if-okay (λ answer. Tells contents (i.left input) (c.held console) (f.tree folder) → RowRan old new request contents (bus x).user (bus x').user answer (i.left input') (c.held console') (f.tree folder'))
-      o r e (λ answer h told. row-ran contents answer h told) (λ why h told. absurd (never-port contents.tree told.tree_told why h))
+  pub made-or-not : (r : Result CallAnswer PlainFault) → r ≡ step_result o
+      → IfOk r (λ answer. (contents : Contents) → Tells contents (i.left input) (c.held console) (f.tree folder) → RowRan old new request contents (bus x).user (bus x').user answer (i.left input') (c.held console') (f.tree folder'))
+  made-or-not r e =
+      if-okay (λ answer. (contents : Contents) → Tells contents (i.left input) (c.held console) (f.tree folder) → RowRan old new request contents (bus x).user (bus x').user answer (i.left input') (c.held console') (f.tree folder'))
+      o r e (λ answer h contents told. row-ran contents answer h told) (λ why h contents told. absurd (never-port contents.tree told.tree_told why h))
 
   -- what the call did to the objects
   pub did-row : Did p f i c bus reads writes (row_asks old.numbers request (bus x).user) (at x folder input console (kept old.numbers false [])) (at x' folder' input' console' (kept new.numbers new.acted [])) o

@@ -43,8 +43,8 @@ write_asks (File file) user buffer count = the_folder
 abbrev pub number_of : List Open → List ℕ → Open
 number_of numbers request = open_at numbers (low (word request 1))
 
--- what the row of a request asks, by its number, with these open numbers and user bytes: mkdirat, unlinkat, faccessat and
--- openat ask the folder, and so do ftruncate, close, lseek, pread64, pwrite64 and fstat of a file
+-- what the row of a request asks, by its number, with these open numbers and user bytes: mkdirat, unlinkat, faccessat
+-- and openat ask the folder, and so do ftruncate, close, lseek, pread64, pwrite64 and fstat of a file
 abbrev pub asks_by : ℕ → List Open → List ℕ → List ℕ → Asked
 asks_by number numbers request user =
     if number == 34 then the_folder

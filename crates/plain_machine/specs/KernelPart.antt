@@ -1,6 +1,7 @@
 -- The kernel part of the call table: what comes of a call before the host is asked. The call's number is a7, its
 -- arguments are a0 to a5 (Linux, include/uapi/asm-generic/unistd.h).
-use Rattle.std.specs.Prelude.{ℕ, zero, suc, ◌+◌, ◌-◌, ◌%◌, ◌^◌, ◌==◌, nat_lt, Bool, if◌then◌else◌, List, [], ◌∷◌, slice_index}
+use Rattle.std.specs.Prelude.{ℕ, zero, suc, ◌+◌, ◌-◌, ◌%◌, ◌^◌, ◌==◌, nat_lt, Bool, if◌then◌else◌, List, [], ◌∷◌}
+use Rattle.std.specs.Prelude.{slice_index}
 use Rattle.fe_base.specs.Limits.{transfer_limit, guest_path_limit, greatest_break}
 use Rattle.fe_base.specs.MemoryMap.{user_start, user_end}
 use Rattle.fe_base.specs.ErrorNumbers.{error_number}

@@ -41,8 +41,8 @@ module _ {F I C : Type 0} (f : folder.Ghosts F) (i : source.Ghosts I) (c : sink.
     pub console_capacity : capacity (c.held new.console) (c.room new.console)
         ≡ capacity (c.held old.console) (c.room old.console)
 
-  -- What a step asks nothing is as it was, and each fault comes only of what it asks. A steady console fails no step for
-  -- which its room suffices.
+  -- What a step asks nothing is as it was, and each fault comes only of what it asks. A steady console fails no step
+  -- for which its room suffices.
   pub record Asking (asked : Asked) (old new : Outside F I C) (fault : Option PlainFault) : Type 0 where
     pub folder_untouched : asks_folder asked ≡ false → new.folder ≡ old.folder
     pub input_untouched : asks_input asked ≡ false → new.input ≡ old.input

@@ -22,9 +22,10 @@ use Rattle.plain_machine.specs.declared.plain.PlainFault.TheVariants.{FileFault,
 abbrev pub IsInside : Setting → List ℕ → Type 0
 IsInside given request = AsksInside (service_of (word request 0)) given request
 
--- The host's row of a request, over these contents and user bytes, gave this answer, and led to the host, the user bytes
--- and the told contents that are found.
-pub record RowRan (old new : HostState) (request : List ℕ) (contents : Contents) (user user_now : List ℕ) (answer : CallAnswer)
+-- The host's row of a request, over these contents and user bytes, gave this answer, and led to the host, the user
+-- bytes and the told contents that are found.
+pub record RowRan (old new : HostState) (request : List ℕ) (contents : Contents) (user user_now : List ℕ)
+    (answer : CallAnswer)
     (input console : Option (List ℕ)) (tree : Option Tree) : Type 0 where
   pub after : Place (List ℕ) Kept
   pub row : host_row old.given request (record { contents = contents; numbers = old.numbers }) user

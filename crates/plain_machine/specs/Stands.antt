@@ -2,12 +2,14 @@
 use Rattle.std.specs.Prelude.{◌≡◌, ◌≤◌, ◌<◌, ◌-◌, ◌⊎◌, ◌↔◌, ⊤, ℕ, Bool, true, false, List, [], Option, Some, None}
 use Rattle.folder_tree.specs.Tree.{Tree, files_of}
 use Rattle.folder_tree.specs.TreeOps.{opened}
-use Rattle.host_text.specs.World.{Contents, World}
+use Rattle.elf_loader.specs.declared.image.Image.{Image}
+use Rattle.folder_tree.specs.Paths.{Parts}
+use Rattle.host_text.specs.World.{Contents, World, first_numbers}
 use Rattle.host_text.specs.declared.open_numbers.Open.{Open}
 use Rattle.syscall_proxy.specs.Kept.{Setting}
 use Rattle.plain_machine.specs.Asks.{Asked, puts_of, step_asks, step_cuts}
 use Rattle.plain_machine.specs.Direct.{Machine, ended, DirectState, in_world, direct_after, status_of}
-use Rattle.plain_machine.specs.Starts.{Configuration, setting_of, direct_start}
+use Rattle.plain_machine.specs.Starts.{Configuration, first_machine, setting_of, direct_start}
 use Rattle.plain_machine.specs.declared.plain.PlainEnd.{PlainEnd}
 use Rattle.plain_machine.specs.declared.plain.PlainEnd.TheVariants.{Exited, StepsSpent, Fault}
 use Rattle.plain_machine.specs.declared.plain.PlainFault.{PlainFault}
@@ -19,6 +21,15 @@ pub record PlainState : Type 0 where
   pub given : Setting
   pub numbers : List Open
   pub steps : ℕ
+
+-- a program before its first step
+abbrev pub first_state : Image → List (List ℕ) → Parts → PlainState
+first_state image args root = record {
+  machine = first_machine image args;
+  given = record { args = args; root = root };
+  numbers = first_numbers;
+  steps = 0;
+}
 
 -- a machine over contents
 abbrev pub direct_of : PlainState → Contents → DirectState
@@ -94,8 +105,8 @@ end_opens (Exited status) machine = false
 end_opens StepsSpent machine = false
 end_opens (Fault fault) machine = step_cuts machine
 
--- what a run of the direct machine comes to: a run, after which machine and open numbers are those of the direct run, and
--- the objects tell its contents to the last open
+-- what a run of the direct machine comes to: a run, after which machine and open numbers are those of the direct run,
+-- and the objects tell its contents to the last open
 pub record PlainRan (first : DirectState) (old new : PlainState) (end : PlainEnd)
     (input console : Option (List ℕ)) (tree : Option Tree) : Type 0 where
   pub ran : Ran old.given first (made old new) (λ status. end ≡ Exited status) input console tree
@@ -107,7 +118,8 @@ pub record PlainRan (first : DirectState) (old new : PlainState) (end : PlainEnd
 -- up to the state after so many steps, none of the steps asks what passes this test
 abbrev pub NeverAsks : (Asked → Bool) → Setting → DirectState → ℕ → Type 0
 NeverAsks test given first steps =
-    (n : ℕ) → n ≤ steps → test (step_asks (direct_after given n first).world.numbers (direct_after given n first).machine) ≡ false
+    (n : ℕ) → n ≤ steps → test (step_asks (direct_after given n first).world.numbers
+    (direct_after given n first).machine) ≡ false
 
 -- up to the state after so many steps, none of the steps puts a byte
 abbrev pub NeverPuts : Setting → DirectState → ℕ → Type 0

@@ -28,15 +28,15 @@ first_bytes image args = placed (loaded image.segments (zeros user_size)) stack_
 
 -- the user state at the start: pc is the entry, sp the stack's top, and every other register 0 (RISC-V ELF psABI, sp is
 -- x2)
-abbrev pub first_state : Image → List (List ℕ) → UserState
-first_state image args =
+abbrev pub entry_state : Image → List (List ℕ) → UserState
+entry_state image args =
     record { pc = image.entry; registers = slice_set (zeros 32) 2 stack_top; user = first_bytes image args }
 
 -- the machine of an image and its arguments before its first step; its break is its first break
 abbrev pub first_machine : Image → List (List ℕ) → Machine
 first_machine image args =
     running (record {
-      state = first_state image args;
+      state = entry_state image args;
       program_break = image.first_break;
       first_break = image.first_break;
     })

@@ -44,8 +44,9 @@ pub fn call<F: Folder, I: Source, C: Sink>(
     ensures given { host.new.given ≡ host.old.given }
     ensures call { IfOk result (λ status. (c : Contents)
         → Tells c (I.left input.old) (C.held console.old) (F.tree folder.old)
-        → Reaches (after_part host.old.given process.old (record { contents = c; numbers = host.old.numbers }) (part_of process.old))
-        (machine_when process.new status) host.new.numbers (I.left input.new) (C.held console.new) (F.tree folder.new)) }
+        → Reaches (after_part host.old.given process.old (record { contents = c; numbers = host.old.numbers })
+        (part_of process.old)) (machine_when process.new status) host.new.numbers (I.left input.new)
+        (C.held console.new) (F.tree folder.new)) }
     ensures kept { OnErr result (process.new ≡ process.old) }
     ensures numbers { OnErr result (host.new.numbers ≡ host.old.numbers) }
     ensures spared { OnErr result ((c : Contents)
@@ -53,7 +54,8 @@ pub fn call<F: Folder, I: Source, C: Sink>(
         → Spares (part_cuts (part_of process.old)) c (I.left input.new) (C.held console.new) (F.tree folder.new)) }
     ensures called { Called F.Folder I.Source C.Sink (outside folder.old input.old console.old)
         (outside folder.new input.new console.new) (result_err result) }
-    ensures asking { Asking F.Folder I.Source C.Sink (part_asks host.old.numbers process.old.state.user (part_of process.old))
+    ensures asking { Asking F.Folder I.Source C.Sink
+        (part_asks host.old.numbers process.old.state.user (part_of process.old))
         (outside folder.old input.old console.old) (outside folder.new input.new console.new) (result_err result) }
     ensures in_world { InWorld F.Folder I.Source C.Sink host.old.numbers host.new.numbers
         (outside folder.old input.old console.old) (outside folder.new input.new console.new) (result_err result) }

@@ -1,5 +1,6 @@
 // What a user program sees of the hart, and its steps.
-ghost use Rattle.std.specs.Prelude.{◌≡◌, ◌≢◌, ◌<◌, ◌≤◌, ◌-◌, ◌^◌, ℕ, length, IsTrue, IsSome, IsNone, IfSome, IfOk, OnErr, None, Some, true, false, slice_index, slice_set};
+ghost use Rattle.std.specs.Prelude.{◌≡◌, ◌≢◌, ◌<◌, ◌≤◌, ◌-◌, ◌^◌, ℕ, length, IsTrue, IsSome, IsNone, IfSome, IfOk};
+ghost use Rattle.std.specs.Prelude.{OnErr, None, Some, true, false, slice_index, slice_set};
 ghost use Rattle.std.specs.Result.{result_err};
 ghost use Rattle.fe_base.specs.MemoryMap.{user_start, kernel_start};
 ghost use Rattle.guest_memory.specs.Bus.{is_ram};
@@ -12,7 +13,8 @@ ghost use Rattle.plain_machine.specs.Programs.{answered};
 ghost use Rattle.plain_machine.specs.Rows.{IsInside, RowRan};
 ghost use Rattle.plain_machine.specs.Stands.{Spares, Tells};
 ghost use Rattle.plain_machine.specs.UserStep as spec;
-ghost use Rattle.plain_machine.specs.UserStep.{user_step, load_step, store_step, effect_step, step_of, Stays, walked, moves};
+ghost use Rattle.plain_machine.specs.UserStep.{user_step, load_step, store_step, effect_step, step_of, Stays, walked};
+ghost use Rattle.plain_machine.specs.UserStep.{moves};
 
 use crate::PlainFault;
 use crate::host_calls::call_on;
@@ -161,8 +163,8 @@ impl Cpu {
         ensures stays { self.new ≡ (record self.old { user = self.new.user }) }
         ensures row { IfOk result (λ answer. (c : Contents)
             → Tells c (I.left input.old) (C.held console.old) (F.tree folder.old)
-            → RowRan host.old host.new request c self.old.user self.new.user answer (I.left input.new) (C.held console.new)
-            (F.tree folder.new)) }
+            → RowRan host.old host.new request c self.old.user self.new.user answer (I.left input.new)
+            (C.held console.new) (F.tree folder.new)) }
         ensures kept { OnErr result (self.new ≡ self.old) }
         ensures numbers { OnErr result (host.new.numbers ≡ host.old.numbers) }
         ensures spared { OnErr result ((c : Contents)
@@ -312,7 +314,8 @@ impl Cpu {
         ensures each { (n : ℕ) → n < result.0 → moves (user_step (walked n self.old)) ≡ true }
         ensures most { result.0 ≤ most }
         ensures moved { result.1 ≡ Outcome.Moved → result.0 ≡ most }
-        ensures stopped { result.1 ≢ Outcome.Moved → (result.0 < most) × (user_step self.new ≡ step_of result.1 self.new) }
+        ensures stopped { result.1 ≢ Outcome.Moved
+            → (result.0 < most) × (user_step self.new ≡ step_of result.1 self.new) }
     {
         let mut count = 0;
         'steps: while count < most {

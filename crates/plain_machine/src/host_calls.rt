@@ -50,7 +50,8 @@ fn call_over<P: ChunkPort, F: Folder, I: Source, C: Sink>(
     ensures file_fault { outcome.new ≡ Err CallFault.FileFault → Rose (F.faults folder.old) (F.faults folder.new) }
     ensures out_of_memory { outcome.new ≡ Err CallFault.OutOfMemory → Rose (F.short folder.old) (F.short folder.new) }
     ensures input_fault { outcome.new ≡ Err CallFault.InputFault → Rose (I.faults input.old) (I.faults input.new) }
-    ensures console_fault { outcome.new ≡ Err CallFault.ConsoleFault → Rose (C.faults console.old) (C.faults console.new) }
+    ensures console_fault { outcome.new ≡ Err CallFault.ConsoleFault
+        → Rose (C.faults console.old) (C.faults console.new) }
     ensures counts { NeverFell P.ChunkPort F.Folder I.Source C.Sink
         (at port folder.old input.old console.old (kept host.old.numbers false []))
         (at result folder.new input.new console.new (kept host.new.numbers host.new.acted [])) }

@@ -70,7 +70,8 @@ fn in_area(buffer: u64, count: u64, part: Part) -> Part
 
 // A call that moves bytes of a buffer, with its count lowered to the most that one call moves.
 fn buffer_part(number: u64, a: u64, buffer: u64, count: u64, place: u64) -> Part
-    ensures { part_in result ≡ spec.lowered count (λ count. spec.in_area buffer count (posts (request number a buffer count place 0))) }
+    ensures { part_in result
+        ≡ spec.lowered count (λ count. spec.in_area buffer count (posts (request number a buffer count place 0))) }
 {
     let count = count.min(TRANSFER_LIMIT);
     in_area(buffer, count, posted(number, a, buffer, count, place, 0))
@@ -125,7 +126,8 @@ fn path_part(cpu: &Cpu) -> Part
 
 // The table by number; None where there is a path to scan.
 fn first_part(process: &Process) -> Option<Part>
-    ensures part { part_or_scan result ≡ spec.first_part process.now.state.registers process.now.program_break process.now.first_break }
+    ensures part { part_or_scan result
+        ≡ spec.first_part process.now.state.registers process.now.program_break process.now.first_break }
     ensures address { slice_index process.now.state.registers 11 < 2 ^ 64 }
 {
     let cpu = &process.cpu;

@@ -22,5 +22,5 @@ mod start;
 #[cfg(test)]
 mod tests;
 
-pub use laws::user_steps_trap;
+pub use laws::{posts_inside, user_steps_trap};
 pub use plain::{Plain, PlainEnd, PlainFault};

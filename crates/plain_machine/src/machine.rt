@@ -50,7 +50,8 @@ impl Model for Machine {
 fn put_byte<C: Sink>(byte: u8, console: &mut C) -> Result<(), Failed>
     ensures put { HasPut C.Sink console.old console.new (byte ∷ []) result }
     ensures bytes { Puts (C.held console.old) (C.held console.new) (byte ∷ []) result }
-    ensures capacity { capacity (C.held console.new) (C.room console.new) ≡ capacity (C.held console.old) (C.room console.old) }
+    ensures capacity { capacity (C.held console.new) (C.room console.new)
+        ≡ capacity (C.held console.old) (C.room console.old) }
     ensures cause { HasCause (C.faults console.old) (C.faults console.new) result }
     ensures steady { C.steady console.old → OnOk result (C.steady console.new) }
     ensures suits { C.steady console.old → PutSuits (C.room console.old) 1 → IsOk result }
@@ -90,7 +91,8 @@ impl Machine {
     /// Steps, at most so many, as long as each is an instruction that moves the program on; how many were made. They
     /// leave the console, the input and the files alone.
     pub fn walk(&mut self, most: u64) -> u64
-        ensures after { (given : Setting) (w : World) → direct_after given result (in_world self.old w) ≡ in_world self.new w }
+        ensures after { (given : Setting) (w : World)
+            → direct_after given result (in_world self.old w) ≡ in_world self.new w }
         ensures each { (given : Setting) (w : World) (n : ℕ) → n < result
             → moves_on (direct_after given n (in_world self.old w)).machine ≡ true }
         ensures most { result ≤ most }

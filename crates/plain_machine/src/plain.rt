@@ -1,8 +1,9 @@
 // The direct run over a source, a sink and a folder.
-ghost use Rattle.std.specs.Prelude.{◌≡◌, ◌≢◌, ◌<◌, ◌≤◌, ◌+◌, ◌-◌, ◌^◌, max, ℕ, [], Some, None, Err, ◌↔◌, IfOk, OnOk, OnErr, is_some, length, if◌then◌else◌};
+ghost use Rattle.std.specs.Prelude.{◌≡◌, ◌≢◌, ◌<◌, ◌≤◌, ◌+◌, ◌-◌, ◌^◌, max, ℕ, [], Some, None, Err, ◌↔◌, IfOk, OnOk};
+ghost use Rattle.std.specs.Prelude.{OnErr, is_some, length, if◌then◌else◌};
 ghost use Rattle.std.specs.Result.{result_err};
 ghost use Rattle.fe_base.specs.Outside.{capacity};
-ghost use Rattle.host_text.specs.World.{Contents, first_numbers};
+ghost use Rattle.host_text.specs.World.{Contents};
 ghost use Rattle.syscall_proxy.specs.Kept.{Setting};
 ghost use Rattle.plain_machine.specs.Outsides.{Asking, Called, InWorld, outside};
 
@@ -54,7 +55,12 @@ impl Model for Plain {
 
     ghost Value = { PlainState };
 
-    ghost view = { λ p. record { machine = p.machine; given = p.host.given; numbers = p.host.numbers; steps = p.steps } };
+    ghost view = { λ p. record {
+      machine = p.machine;
+      given = p.host.given;
+      numbers = p.host.numbers;
+      steps = p.steps;
+    } };
 }
 
 impl Plain {
@@ -62,19 +68,23 @@ impl Plain {
     ghost use Rattle.elf_loader.specs.Rules.{user_rules};
     ghost use Rattle.fe_base.specs.WordLists.{main_vars_length};
     ghost use Rattle.folder_tree.specs.Paths.{path_text};
+    ghost use Rattle.folder_tree.specs.Tree.{IsWellFormed, Tree};
+    ghost use Rattle.syscall_proxy.specs.Worlds.{IsWorldOf};
     ghost use Rattle.plain_machine.specs.Asks.{asks_folder, asks_input, puts_of, step_cuts};
     ghost use Rattle.std.specs.Prelude.{true, false};
     ghost use Rattle.plain_machine.specs.Direct.{DirectState, direct_after, direct_step, ended, moves_on, status_of};
-    ghost use Rattle.plain_machine.specs.Starts.{first_machine};
-    ghost use Rattle.plain_machine.specs.Stands.{HasRoomFor, IsAt, NeverAsks, NeverPuts, PlainRan, Spares, Tells, asks, direct_of, end_fault, made};
+    ghost use Rattle.plain_machine.specs.Stands.{HasRoomFor, IsAt, NeverAsks, NeverPuts, PlainRan, Spares, Tells};
+    ghost use Rattle.plain_machine.specs.Stands.{asks, direct_of, end_fault, first_state, made};
 
     /// A program before its first step: its image and its arguments stand in the user area. The root is where the paths
     /// of its calls begin. It takes the memory of the machine, and of its host.
+    #[tactic(auto, using(crate::proofs::FirstWorld::is_world))]
     pub fn start(alloc: Global, image: Image, args: &Words, root: Path) -> Result<Plain, AllocError>
         requires fit { IsFit user_rules image }
         requires arguments { main_vars_length args.now ≤ MAIN_VARS_LIMIT }
         requires root_length { length (path_text root) ≤ PATH_TEXT_LIMIT }
-        ensures { IfOk result (λ plain. plain ≡ record { machine = first_machine image args.now; given = record { args = args.now; root = root }; numbers = first_numbers; steps = 0 }) }
+        ensures world { IfOk result (λ plain. (t : Tree) → IsWellFormed t → IsWorldOf plain.numbers t) }
+        ensures first { IfOk result (λ plain. plain ≡ first_state image args.now root) }
     {
         let host = Host::new(alloc, args, root)?;
         let bus = first_bus(alloc, &image.segments, args)?;
@@ -104,9 +114,11 @@ impl Plain {
         // Over told objects the step is the direct step.
         ensures step { OnOk result ((c : Contents)
             → Tells c (I.left input.old) (C.held console.old) (F.tree folder.old)
-            → IsAt (direct_step self.old.given (direct_of self.old c)) self.new (I.left input.new) (C.held console.new) (F.tree folder.new)) }
+            → IsAt (direct_step self.old.given (direct_of self.old c)) self.new (I.left input.new) (C.held console.new)
+            (F.tree folder.new)) }
         ensures status { IfOk result (λ status. status ≡ status_of self.new.machine) }
-        ensures counted { OnOk result (self.new.steps ≡ (if is_some (status_of self.old.machine) then self.old.steps else self.old.steps + 1)) }
+        ensures counted { OnOk result (self.new.steps
+            ≡ (if is_some (status_of self.old.machine) then self.old.steps else self.old.steps + 1)) }
         ensures given { self.new.given ≡ self.old.given }
 
         // A fault leaves the machine, its open numbers and what the objects tell; but an openat that takes a file's
@@ -116,8 +128,8 @@ impl Plain {
             → Tells c (I.left input.old) (C.held console.old) (F.tree folder.old)
             → Spares (step_cuts self.old.machine) c (I.left input.new) (C.held console.new) (F.tree folder.new)) }
 
-        // The causes of faults; what steady objects do; what the step asks of the objects, and that it touches no other;
-        // and that a world stays one.
+        // The causes of faults and what steady objects do; what the step asks of the objects, and that it touches no
+        // other; and that a world stays one.
         ensures called { Called F.Folder I.Source C.Sink (outside folder.old input.old console.old)
             (outside folder.new input.new console.new) (result_err result) }
         ensures asking { Asking F.Folder I.Source C.Sink (asks self.old) (outside folder.old input.old console.old)
@@ -141,8 +153,8 @@ impl Plain {
         input: &mut I,
         console: &mut C,
     ) -> PlainEnd
-        // Where machine and told objects stand at a state, they stand behind the run where so many direct steps lead from
-        // there, whatever is answered. Before each of these steps the machine had not ended.
+        // Where machine and told objects stand at a state, they stand behind the run where so many direct steps lead
+        // from there, whatever is answered. Before each of these steps the machine had not ended.
         ensures ran { (first : DirectState)
             → IsAt first self.old (I.left input.old) (C.held console.old) (F.tree folder.old)
             → PlainRan first self.old self.new result (I.left input.new) (C.held console.new) (F.tree folder.new) }
@@ -152,7 +164,8 @@ impl Plain {
 
         // How the run ended, exactly. A fault comes below the limit.
         ensures exited { (status : ℕ) → (result ≡ PlainEnd.Exited status) ↔ (self.new.machine ≡ ended status) }
-        ensures spent { (result ≡ PlainEnd.StepsSpent) ↔ ((status_of self.new.machine ≡ None) × (self.new.steps ≡ max limit self.old.steps)) }
+        ensures spent { (result ≡ PlainEnd.StepsSpent)
+            ↔ ((status_of self.new.machine ≡ None) × (self.new.steps ≡ max limit self.old.steps)) }
         ensures stopped { (fault : PlainFault) → result ≡ PlainEnd.Fault fault → self.new.steps < limit }
 
         // The causes of faults; what steady objects do; that a world stays one; and that a fault comes only of what the
@@ -181,7 +194,8 @@ impl Plain {
         // step more than were made.
         ensures suits { C.steady console.old → (first : DirectState)
             → IsAt first self.old (I.left input.old) (C.held console.old) (F.tree folder.old)
-            → HasRoomFor (capacity (C.held console.old) (C.room console.old)) (length (direct_after self.old.given (made self.old self.new + 1) first).world.contents.console)
+            → HasRoomFor (capacity (C.held console.old) (C.room console.old))
+            (length (direct_after self.old.given (made self.old self.new + 1) first).world.contents.console)
             → result ≡ PlainEnd.Fault PlainFault.ConsoleFault → ⊥ }
     {
         'steps: while self.steps < limit && self.status().is_none() {
@@ -200,8 +214,11 @@ impl Plain {
     // Steps that move the program on and do nothing else, until the next one is another or this limit's steps were
     // made, those of earlier calls among them.
     fn walk(&mut self, limit: u64)
-        ensures after { (c : Contents) → direct_after self.old.given (self.new.steps - self.old.steps) (direct_of self.old c) ≡ direct_of self.new c }
-        ensures each { (c : Contents) (n : ℕ) → n < self.new.steps - self.old.steps → moves_on (direct_after self.old.given n (direct_of self.old c)).machine ≡ true }
+        ensures after { (c : Contents)
+            → direct_after self.old.given (self.new.steps - self.old.steps) (direct_of self.old c)
+            ≡ direct_of self.new c }
+        ensures each { (c : Contents) (n : ℕ) → n < self.new.steps - self.old.steps
+            → moves_on (direct_after self.old.given n (direct_of self.old c)).machine ≡ true }
         ensures given { self.new.given ≡ self.old.given }
         ensures numbers { self.new.numbers ≡ self.old.numbers }
         ensures later { self.old.steps ≤ self.new.steps }

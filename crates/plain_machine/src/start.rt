@@ -39,7 +39,8 @@ fn load(bus: &mut Bus, segments: &Segments)
 pub fn first_bus(alloc: Global, segments: &Segments, args: &Words) -> Result<Bus, AllocError>
     requires fit { All (IsFitSegment user_rules.areas) segments.now }
     requires arguments { main_vars_length args.now ≤ MAIN_VARS_LIMIT }
-    ensures { IfOk result (λ bus. bus.user ≡ placed (loaded segments.now (zeros user_size)) STACK_TOP (main_vars_text args.now STACK_TOP)) }
+    ensures { IfOk result (λ bus. bus.user
+        ≡ placed (loaded segments.now (zeros user_size)) STACK_TOP (main_vars_text args.now STACK_TOP)) }
 {
     let mut bus = Bus::new(alloc)?;
     let vars = main_vars(alloc, args, STACK_TOP)?;

@@ -1,16 +1,18 @@
 use Rattle.std.proofs.Common.{◌≡◌, ◌∙◌, sym, ap, rules}
-use Rattle.plain_machine.specs.KernelPart.{posts}
-use Rattle.plain_machine.specs.Machines.{part_in}
+use Rattle.plain_machine.specs.Asks.{part_cuts}
 use Rattle.plain_machine.specs.Programs.{part_of}
 use Rattle.plain_machine.proofs.Joins.{world-none}
-use Rattle.plain_machine.proofs.Reached.{reaches-exit, reaches-result, part-spares}
+use Rattle.plain_machine.proofs.Reached.{reaches-exit, reaches-result, served-is, on-any, moved-spares}
 use Rattle.plain_machine.proofs.calls.call.Goals as goal
 
 pub returns-in_err-value-in-Posts-clause-spared : goal.returns-in_err-value-in-Posts-clause-spared
-returns-in_err-value-in-Posts-clause-spared g c = ?
+returns-in_err-value-in-Posts-clause-spared g c =
+    on-any _ _ (λ contents told. moved-spares (c.in_err-value-in-Posts.ensures.spared contents told) (part_cuts (part_of c.args.process.now)) (ap part_cuts c.in-Posts.ensures.part))
 
 pub returns-in-Exit-clause-call : goal.returns-in-Exit-clause-call
-returns-in-Exit-clause-call g c = ?
+returns-in-Exit-clause-call g c = λ contents told.
+    reaches-exit c.args.host.now c.serve.new.host c.args.process.now c.in-Posts.request contents c.process.inside.cpu.user c.serve.new.self.user c.in_ok-value-in-Posts.field-0 c.in-Exit.status
+    (c.in_ok-value-in-Posts.ensures.row contents told) (sym c.in-Posts.ensures.part) (search rules) c.in-Exit.is
 
 pub returns-in-Gives-clause-in_world : goal.returns-in-Gives-clause-in_world
 returns-in-Gives-clause-in_world g c = world-none g.F.Folder g.I.Source g.C.Sink _ _
@@ -19,4 +21,7 @@ pub returns-in-Breaks-clause-in_world : goal.returns-in-Breaks-clause-in_world
 returns-in-Breaks-clause-in_world g c = world-none g.F.Folder g.I.Source g.C.Sink _ _
 
 pub returns-in-Result-clause-call : goal.returns-in-Result-clause-call
-returns-in-Result-clause-call g c = ?
+returns-in-Result-clause-call g c = λ contents told.
+    reaches-result c.args.host.now c.serve.new.host c.args.process.now _ c.in-Posts.request contents c.process.inside.cpu.user c.serve.new.self.user c.in_ok-value-in-Posts.field-0 c.in-Result.value
+    (c.in_ok-value-in-Posts.ensures.row contents told) (sym c.in-Posts.ensures.part) (search rules) c.in-Result.is
+    (served-is c.args.process.now c.process.inside.cpu c.serve.new.self c.answer-in-Result.new.self c.process.inside.program_break c.process.inside.first_break c.in-Result.value (search rules) c.serve.ensures.stays c.answer-in-Result.ensures)

@@ -1,4 +1,4 @@
-use Rattle.std.proofs.Common.{◌≡◌, ◌∙◌, refl}
+use Rattle.std.proofs.Common.{◌≡◌, ◌∙◌, [], refl}
 use Rattle.host_text.specs.Causes.{played-later}
 use Rattle.host_text.specs.Outside.{acts}
 use Rattle.plain_machine.proofs.host_calls.call_over.Goals as goal

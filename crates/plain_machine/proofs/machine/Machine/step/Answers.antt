@@ -1,13 +1,19 @@
-use Rattle.std.proofs.Common.{◌≡◌, ◌∙◌, sym, ap, rules}
+use Rattle.std.proofs.Common.{◌≡◌, ◌∙◌, Some, sym, ap, rules}
+use Rattle.std.specs.Result.{result_err}
+use Rattle.plain_machine.specs.Asks.{step_cuts}
+use Rattle.plain_machine.specs.declared.plain.PlainFault.TheVariants.{FileFault, ConsoleFault}
 use Rattle.plain_machine.proofs.Joins.{world-none}
-use Rattle.plain_machine.proofs.Reached.{step-spares, world-same, put-called}
+use Rattle.plain_machine.proofs.Reached.{on-any, moved-spares, world-same, put-called}
 use Rattle.plain_machine.proofs.machine.Machine.step.Goals as goal
 
 pub returns-in_err-status-in-Called-clause-spared : goal.returns-in_err-status-in-Called-clause-spared
-returns-in_err-status-in-Called-clause-spared g c = ?
+returns-in_err-status-in-Called-clause-spared g c =
+    on-any _ _ (λ contents told. moved-spares (c.in_err-status-in-Called.ensures.spared contents told) (step_cuts c.args.self.now) (search rules))
 
 pub returns-in_err-map_err-in-Some-first-clause-in_world : goal.returns-in_err-map_err-in-Some-first-clause-in_world
-returns-in_err-map_err-in-Some-first-clause-in_world g c = ?
+returns-in_err-map_err-in-Some-first-clause-in_world g c =
+    let is : result_err c.from_residual-in_err-map_err-in-Some-first.result ≡ Some ConsoleFault = search rules in
+    world-same g.F.Folder g.I.Source g.C.Sink _ _ _ _ _ _ _ (λ e. let clash : Some ConsoleFault ≡ Some FileFault = sym is ∙ e in cc)
 
 pub returns-in-Moved-clause-in_world : goal.returns-in-Moved-clause-in_world
 returns-in-Moved-clause-in_world g c = world-none g.F.Folder g.I.Source g.C.Sink _ _
@@ -16,7 +22,7 @@ pub returns-in-Trapped-clause-in_world : goal.returns-in-Trapped-clause-in_world
 returns-in-Trapped-clause-in_world g c = world-none g.F.Folder g.I.Source g.C.Sink _ _
 
 pub returns-in_ok-map_err-in-Some-first-clause-called : goal.returns-in_ok-map_err-in-Some-first-clause-called
-returns-in_ok-map_err-in-Some-first-clause-called g c = ?
+returns-in_ok-map_err-in-Some-first-clause-called g c = put-called g.F.Folder g.I.Source g.C.Sink _ _ _ _ _ _ c.put_byte.ensures.put (search rules)
 
 pub returns-in_ok-map_err-in-Some-first-clause-in_world : goal.returns-in_ok-map_err-in-Some-first-clause-in_world
 returns-in_ok-map_err-in-Some-first-clause-in_world g c = world-same g.F.Folder g.I.Source g.C.Sink _ _ _ _ _ _ _ (λ e. cc)

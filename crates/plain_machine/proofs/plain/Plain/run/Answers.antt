@@ -3,10 +3,10 @@ use Rattle.std.specs.Result.{result_err}
 use Rattle.plain_machine.specs.Asks.{Asked, asks_folder, asks_input, puts_of}
 use Rattle.plain_machine.specs.Direct.{DirectState, status_of}
 use Rattle.plain_machine.specs.Outsides.{Called, InWorld, outside}
-use Rattle.plain_machine.specs.Stands.{PlainState, IsAt, asks, made}
+use Rattle.plain_machine.specs.Stands.{PlainState, IsAt, asks, end_fault, made}
 use Rattle.plain_machine.proofs.Consoles.{puts-suit}
 use Rattle.plain_machine.proofs.Joins.{called-none, called-then, world-none, world-then, asks-here}
-use Rattle.plain_machine.proofs.Runs.{StandsAt, StandsAt-begin, StandsAt-walk, StandsAt-next, ran-to, ran-fault, ended-by-status}
+use Rattle.plain_machine.proofs.Runs.{StandsAt, StandsAt-begin, StandsAt-walk, StandsAt-next, ran-to, ran-fault, exits-some, exits-none}
 use Rattle.plain_machine.proofs.plain.Plain.run.Goals as goal
 
 pub steps-init : goal.steps-init
@@ -38,7 +38,7 @@ steps-preserved g c =
     let given : c.walk.new.self.given ≡ c.args.self.now.given = c.walk.ensures.given ∙ c.steps.invariant.given in
     let fine : result_err c.step.result ≡ None = search rules in
     let walked : (first : DirectState) → IsAt first c.args.self.now (g.I.Source.left c.args.input.now) (g.C.Sink.held c.args.console.now) (g.F.Folder.tree c.args.folder.now)
-        → StandsAt c.args.self.now first c.walk.new.self (g.I.Source.left c.steps.input) (g.C.Sink.held c.steps.console) (g.F.Folder.tree c.steps.folder) =
+    → StandsAt c.args.self.now first c.walk.new.self (g.I.Source.left c.steps.input) (g.C.Sink.held c.steps.console) (g.F.Folder.tree c.steps.folder) =
     λ first at. StandsAt-walk _ first c.steps.self c.walk.new.self c.steps.invariant.later c.walk.ensures.later c.steps.invariant.given (λ k. c.walk.ensures.after k) (λ k. c.walk.ensures.each k) (c.steps.invariant.stands first at) in
     let next : made c.args.self.now c.step.new.self ≡ made c.args.self.now c.walk.new.self + 1 = omega (arith, more, later) in
     record {
@@ -63,10 +63,66 @@ steps-preserved g c =
     }
 
 pub returns-in-Err-clause-ran : goal.returns-in-Err-clause-ran
-returns-in-Err-clause-ran g c = ?
+returns-in-Err-clause-ran g c = λ first at.
+    let runs : status_of c.walk.new.self.machine ≡ None = c.walk.ensures.status ∙ (search rules) in
+    ran-fault _ first c.walk.new.self _ _ c.in-Err.ensures.kept runs c.in-Err.ensures.spared (StandsAt-walk _ first c.steps.self c.walk.new.self c.steps.invariant.later c.walk.ensures.later c.steps.invariant.given (λ k. c.walk.ensures.after k) (λ k. c.walk.ensures.each k) (c.steps.invariant.stands first at))
 
 pub returns-in-Err-clause-in_world : goal.returns-in-Err-clause-in_world
-returns-in-Err-clause-in_world g c = ?
+returns-in-Err-clause-in_world g c =
+    world-then g.F.Folder g.I.Source g.C.Sink _ c.walk.new.self.numbers _ _ (outside c.steps.folder c.steps.input c.steps.console) _ _
+    (subst (λ n. InWorld g.F.Folder g.I.Source g.C.Sink c.args.self.now.numbers n (outside c.args.folder.now c.args.input.now c.args.console.now) (outside c.steps.folder c.steps.input c.steps.console) None) (sym c.walk.ensures.numbers) c.steps.invariant.in_world)
+    (subst (λ z. InWorld g.F.Folder g.I.Source g.C.Sink c.walk.new.self.numbers c.step.new.self.numbers (outside c.steps.folder c.steps.input c.steps.console) (outside c.step.new.folder c.step.new.input c.step.new.console) z) (ap result_err c.in-Err.is) c.step.ensures.in_world)
+
+pub returns-in-Err-clause-folder_untouched : goal.returns-in-Err-clause-folder_untouched
+returns-in-Err-clause-folder_untouched g c = λ first at never.
+    let same : c.step.new.self.steps ≡ c.walk.new.self.steps = ap (λ (p : PlainState). p.steps) c.in-Err.ensures.kept in
+    c.step.ensures.asking.folder_untouched (asks-here (λ x. asks_folder x ≡ false) _ first c.walk.new.self (StandsAt-walk _ first c.steps.self c.walk.new.self c.steps.invariant.later c.walk.ensures.later c.steps.invariant.given (λ k. c.walk.ensures.after k) (λ k. c.walk.ensures.each k) (c.steps.invariant.stands first at)) (never (made c.args.self.now c.walk.new.self) (omega (arith, same))))
+    ∙ c.steps.invariant.folder_untouched first at (λ n before. never n (omega (arith, before, same, c.walk.ensures.later)))
+
+pub returns-in-Err-clause-input_untouched : goal.returns-in-Err-clause-input_untouched
+returns-in-Err-clause-input_untouched g c = λ first at never.
+    let same : c.step.new.self.steps ≡ c.walk.new.self.steps = ap (λ (p : PlainState). p.steps) c.in-Err.ensures.kept in
+    c.step.ensures.asking.input_untouched (asks-here (λ x. asks_input x ≡ false) _ first c.walk.new.self (StandsAt-walk _ first c.steps.self c.walk.new.self c.steps.invariant.later c.walk.ensures.later c.steps.invariant.given (λ k. c.walk.ensures.after k) (λ k. c.walk.ensures.each k) (c.steps.invariant.stands first at)) (never (made c.args.self.now c.walk.new.self) (omega (arith, same))))
+    ∙ c.steps.invariant.input_untouched first at (λ n before. never n (omega (arith, before, same, c.walk.ensures.later)))
+
+pub returns-in-Err-clause-console_untouched : goal.returns-in-Err-clause-console_untouched
+returns-in-Err-clause-console_untouched g c = λ first at never.
+    let same : c.step.new.self.steps ≡ c.walk.new.self.steps = ap (λ (p : PlainState). p.steps) c.in-Err.ensures.kept in
+    c.step.ensures.asking.console_untouched (asks-here (λ x. puts_of x ≡ []) _ first c.walk.new.self (StandsAt-walk _ first c.steps.self c.walk.new.self c.steps.invariant.later c.walk.ensures.later c.steps.invariant.given (λ k. c.walk.ensures.after k) (λ k. c.walk.ensures.each k) (c.steps.invariant.stands first at)) (never (made c.args.self.now c.walk.new.self) (omega (arith, same))))
+    ∙ c.steps.invariant.console_untouched first at (λ n before. never n (omega (arith, before, same, c.walk.ensures.later)))
+
+pub returns-in-Err-clause-suits : goal.returns-in-Err-clause-suits
+returns-in-Err-clause-suits g c = λ steady first at suffices is.
+    let same : c.step.new.self.steps ≡ c.walk.new.self.steps = ap (λ (p : PlainState). p.steps) c.in-Err.ensures.kept in
+    let next : made c.args.self.now c.step.new.self + 1 ≡ made c.args.self.now c.walk.new.self + 1 = omega (arith, same) in
+    let walked = StandsAt-walk _ first c.steps.self c.walk.new.self c.steps.invariant.later c.walk.ensures.later c.steps.invariant.given (λ k. c.walk.ensures.after k) (λ k. c.walk.ensures.each k) (c.steps.invariant.stands first at) in
+    let suit = puts-suit c.args.self.now.given first (made c.args.self.now c.walk.new.self) _ c.walk.new.self (g.C.Sink.room c.steps.console) (g.C.Sink.held c.args.console.now) (g.C.Sink.room c.args.console.now) next walked.at c.steps.invariant.called.console_capacity suffices in
+    c.step.ensures.asking.console_suits (c.steps.invariant.called.console_steady steady (λ e. cc)).1 suit (ap result_err c.in-Err.is ∙ ap end_fault is)
 
 pub returns-in-Some-clause-ran : goal.returns-in-Some-clause-ran
-returns-in-Some-clause-ran g c = ?
+returns-in-Some-clause-ran g c = λ first at.
+    let is : status_of c.steps.self.machine ≡ Some c.in-Some.status = search rules in
+    ran-to _ first _ _ refl (exits-some c.steps.self.machine c.in-Some.status is) (c.steps.invariant.stands first at)
+
+pub returns-in-None-clause-ran : goal.returns-in-None-clause-ran
+returns-in-None-clause-ran g c = λ first at.
+    let is : status_of c.steps.self.machine ≡ None = search rules in
+    ran-to _ first _ _ refl (exits-none c.steps.self.machine is) (c.steps.invariant.stands first at)
+
+pub returns-in-Some-clause-folder_untouched : goal.returns-in-Some-clause-folder_untouched
+returns-in-Some-clause-folder_untouched g c = λ first at never. c.steps.invariant.folder_untouched first at (λ n before. never n (omega (arith, before)))
+
+pub returns-in-Some-clause-input_untouched : goal.returns-in-Some-clause-input_untouched
+returns-in-Some-clause-input_untouched g c = λ first at never. c.steps.invariant.input_untouched first at (λ n before. never n (omega (arith, before)))
+
+pub returns-in-Some-clause-console_untouched : goal.returns-in-Some-clause-console_untouched
+returns-in-Some-clause-console_untouched g c = λ first at never. c.steps.invariant.console_untouched first at (λ n before. never n (omega (arith, before)))
+
+pub returns-in-None-clause-folder_untouched : goal.returns-in-None-clause-folder_untouched
+returns-in-None-clause-folder_untouched g c = λ first at never. c.steps.invariant.folder_untouched first at (λ n before. never n (omega (arith, before)))
+
+pub returns-in-None-clause-input_untouched : goal.returns-in-None-clause-input_untouched
+returns-in-None-clause-input_untouched g c = λ first at never. c.steps.invariant.input_untouched first at (λ n before. never n (omega (arith, before)))
+
+pub returns-in-None-clause-console_untouched : goal.returns-in-None-clause-console_untouched
+returns-in-None-clause-console_untouched g c = λ first at never. c.steps.invariant.console_untouched first at (λ n before. never n (omega (arith, before)))

@@ -1,3 +1,6 @@
+use Rattle.std.proofs.Common.{◌≡◌, rules}
+use Rattle.plain_machine.specs.Asks.{step_cuts}
+use Rattle.plain_machine.proofs.Reached.{on-any, moved-spares}
 use Rattle.plain_machine.proofs.Joins.{world-none}
 use Rattle.plain_machine.proofs.plain.Plain.step.Goals as goal
 
@@ -5,4 +8,5 @@ pub returns-in-Some-clause-in_world : goal.returns-in-Some-clause-in_world
 returns-in-Some-clause-in_world g c = world-none g.F.Folder g.I.Source g.C.Sink _ _
 
 pub returns-in_err-step-clause-spared : goal.returns-in_err-step-clause-spared
-returns-in_err-step-clause-spared g c = ?
+returns-in_err-step-clause-spared g c =
+    on-any _ _ (λ contents told. moved-spares (c.in_err-step.ensures.spared contents told) (step_cuts c.args.self.now.machine) (search rules))
