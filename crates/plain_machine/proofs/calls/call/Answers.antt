@@ -1,13 +1,18 @@
 use Rattle.std.proofs.Common.{◌≡◌, ◌∙◌, sym, ap, rules}
 use Rattle.plain_machine.specs.Asks.{part_cuts}
 use Rattle.plain_machine.specs.Programs.{part_of}
+use Rattle.plain_machine.specs.Stands.{Spares, Tells}
+use Rattle.host_text.specs.World.{Contents}
 use Rattle.plain_machine.proofs.Joins.{world-none}
 use Rattle.plain_machine.proofs.Reached.{reaches-exit, reaches-result, served-is, on-any, moved-spares}
 use Rattle.plain_machine.proofs.calls.call.Goals as goal
 
 pub returns-in_err-value-in-Posts-clause-spared : goal.returns-in_err-value-in-Posts-clause-spared
 returns-in_err-value-in-Posts-clause-spared g c =
-    on-any _ _ (λ contents told. moved-spares (c.in_err-value-in-Posts.ensures.spared contents told) (part_cuts (part_of c.args.process.now)) (ap part_cuts c.in-Posts.ensures.part))
+    let h : (contents : Contents) → Tells contents (g.I.Source.left c.args.input.now) (g.C.Sink.held c.args.console.now) (g.F.Folder.tree c.args.folder.now)
+    → Spares (part_cuts (part_of c.args.process.now)) contents (g.I.Source.left c.serve.new.input) (g.C.Sink.held c.serve.new.console) (g.F.Folder.tree c.serve.new.folder) =
+    λ contents told. moved-spares (c.in_err-value-in-Posts.ensures.spared contents told) (part_cuts (part_of c.args.process.now)) (ap part_cuts c.in-Posts.ensures.part) in
+    on-any _ _ h
 
 pub returns-in-Exit-clause-call : goal.returns-in-Exit-clause-call
 returns-in-Exit-clause-call g c = λ contents told.

@@ -1,7 +1,10 @@
 use Rattle.std.proofs.Common.{◌≡◌, ◌∙◌, ℕ, List, Option, Some, rules, subst, sym, ap, refl}
 use Rattle.std.specs.Prelude.{IfOk, OnErr}
+use Rattle.std.specs.Result.{result_err}
 use Rattle.guest_memory.specs.Bus.{BusState, IsBus}
 use Rattle.host_text.specs.World.{Contents}
+use Rattle.plain_machine.specs.Asks.{row_asks}
+use Rattle.plain_machine.specs.Outsides.{Asking, outside}
 use Rattle.plain_machine.specs.Rows.{RowRan}
 use Rattle.plain_machine.specs.Stands.{Tells}
 use Rattle.plain_machine.proofs.Served.{made-or-not, same-numbers, spares, same-user, has-called, has-asked}
@@ -49,4 +52,10 @@ returns-clause-called g c =
 
 pub returns-clause-asking : goal.returns-clause-asking
 returns-clause-asking g c =
-    let probe = {! c.call_over-port.ensures.played !} in ?
+    let h = has-asked _ g.F.Folder g.I.Source g.C.Sink c.args.host.now c.call_over-port.new.host c.args.request c.over.result c.call_over-port.result c.args.folder.now c.call_over-port.new.folder
+    c.args.input.now c.call_over-port.new.input c.args.console.now c.call_over-port.new.console c.call_over-port.new.outcome c.call_over-port.ensures.played (λ y. y.bus.now)
+    (λ y y' place count r d. record { maps = d.maps; told = d.told; spelled = d.reached tt }) (λ y y' place bytes r d. record { maps = d.maps; told = d.told; spelled = d.reached tt })
+    c.requires (subst IsBus (sym c.over.ensures.bus) c.tell_sizes.ensures) c.result_of.result c.result_of.ensures in
+    subst (λ (l : List ℕ). Asking g.F.Folder g.I.Source g.C.Sink (row_asks c.args.host.now.numbers c.args.request l) (outside c.args.folder.now c.args.input.now c.args.console.now)
+    (outside c.call_over-port.new.folder c.call_over-port.new.input c.call_over-port.new.console) (result_err c.result_of.result))
+    (ap (λ (b : BusState). b.user) c.over.ensures.bus) h

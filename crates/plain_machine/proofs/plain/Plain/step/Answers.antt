@@ -1,5 +1,7 @@
 use Rattle.std.proofs.Common.{◌≡◌, rules}
+use Rattle.host_text.specs.World.{Contents}
 use Rattle.plain_machine.specs.Asks.{step_cuts}
+use Rattle.plain_machine.specs.Stands.{Spares, Tells}
 use Rattle.plain_machine.proofs.Reached.{on-any, moved-spares}
 use Rattle.plain_machine.proofs.Joins.{world-none}
 use Rattle.plain_machine.proofs.plain.Plain.step.Goals as goal
@@ -9,4 +11,7 @@ returns-in-Some-clause-in_world g c = world-none g.F.Folder g.I.Source g.C.Sink 
 
 pub returns-in_err-step-clause-spared : goal.returns-in_err-step-clause-spared
 returns-in_err-step-clause-spared g c =
-    on-any _ _ (λ contents told. moved-spares (c.in_err-step.ensures.spared contents told) (step_cuts c.args.self.now.machine) (search rules))
+    let h : (contents : Contents) → Tells contents (g.I.Source.left c.args.input.now) (g.C.Sink.held c.args.console.now) (g.F.Folder.tree c.args.folder.now)
+    → Spares (step_cuts c.args.self.now.machine) contents (g.I.Source.left c.step.new.input) (g.C.Sink.held c.step.new.console) (g.F.Folder.tree c.step.new.folder) =
+    λ contents told. moved-spares (c.in_err-step.ensures.spared contents told) (step_cuts c.args.self.now.machine) (search rules) in
+    on-any _ _ h
