@@ -36,4 +36,3 @@ pub mod RowLaws
 pub mod ChangeLaws
 pub mod AdvanceLaws
 pub mod StepsLeft
-pub mod CallPartLaws

@@ -15,4 +15,3 @@ pub mod Mailbox
 pub mod Changes
 pub mod Progress
 pub mod Advance
-pub mod CallParts

@@ -1,5 +1,4 @@
 // The laws of the phases, on which a run of kernel and host stands.
-ghost use Rattle.kernel_sim.specs.CallParts.{PartsAgree};
 ghost use Rattle.kernel_sim.specs.Begins.{ImageLoads, ResetBegins};
 ghost use Rattle.kernel_sim.specs.Advance.{BeginHolds, StepsAdvance, HostWritesHold, StepsLower, WritesLower, StepsBounded};
 
@@ -42,9 +41,4 @@ pub fn writes_lower()
 /// How many steps are left from where the hart begins.
 pub fn steps_bounded()
     ensures { StepsBounded }
-{}
-
-/// The kernel part of a call agrees with the direct machine's call table, in the calls that that one answers itself.
-pub fn parts_agree()
-    ensures { PartsAgree }
 {}

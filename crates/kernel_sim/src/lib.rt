@@ -27,8 +27,8 @@ mod words;
 pub mod writes;
 
 pub use laws::{
-    begin_holds, host_writes_hold, image_loads, parts_agree, reset_begins, steps_advance,
-    steps_bounded, steps_lower, writes_lower,
+    begin_holds, host_writes_hold, image_loads, reset_begins, steps_advance, steps_bounded,
+    steps_lower, writes_lower,
 };
 pub use phase::{Phase, PhaseKind, Spoken, UserState};
 pub use start::begin;
