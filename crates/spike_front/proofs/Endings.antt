@@ -1,5 +1,6 @@
 -- From how a run on the direct machine ended to what the top call says of it.
 use Rattle.std.proofs.Common.{◌≡◌, ◌≤◌, ◌<◌, ◌+◌, ◌↔◌, inl, inr, ℕ, true, false, List, [], length, Option, Some, None, refl, ap, sym, subst, ◌∙◌, arith}
+use Rattle.folder_tree.specs.Paths.{Parts}
 use Rattle.folder_tree.specs.Tree.{Tree}
 use Rattle.plain_machine.specs.Direct.{World, DirectState, PlainState, Machine, running, dying, ended, direct_after, direct_after-zero, direct_start, status_of, step_puts, is_built, Tells, IsAt, HasRoomFor}
 use Rattle.plain_machine.specs.declared.plain.PlainFault.TheVariants.{FileFault as FileStop, InputFault as InputStop, ConsoleFault as ConsoleStop, OutOfMemory as MemoryStop, NotBuilt as NotBuiltStop}
@@ -163,12 +164,14 @@ pub Ran-as : (c d : RunCase) (answer : Answer) (steps : ℕ) {input console : Op
 Ran-as c d answer steps {input} {console} {tree} same ran = subst (λ (e : RunCase). Ran e answer steps input console tree) same ran
 
 -- the run of a plan is the case that was asked for
-pub case_same : (c : RunCase) (image : Image) (args : List (List ℕ)) (limit : ℕ) → run image args limit ≡ run c.image c.args c.limit → case_of c.world image args limit ≡ c
-case_same c image args limit e =
+pub case_same : (c : RunCase) (image : Image) (args : List (List ℕ)) (root : Parts) (limit : ℕ) → run image args root limit ≡ run c.image c.args c.root c.limit
+    → case_of c.world image args root limit ≡ c
+case_same c image args root limit e =
     let same_image : image ≡ c.image = cc in
     let same_args : args ≡ c.args = cc in
+    let same_root : root ≡ c.root = cc in
     let same_limit : limit ≡ c.limit = cc in
-    λ i. record { world = c.world; image = same_image i; args = same_args i; limit = same_limit i }
+    λ i. record { world = c.world; image = same_image i; args = same_args i; root = same_root i; limit = same_limit i }
 
 pub refuse_same : (a b : Answer) → refuse a ≡ refuse b → a ≡ b
 refuse_same a b e = cc

@@ -4,7 +4,8 @@ use Rattle.std.proofs.Math.ListN.{drop_of_length-le}
 use Rattle.std.proofs.lemmas.List.{drop-drop}
 use Rattle.std.specs.Prelude.{slice_get, bytes_eq, codes, ok_or}
 use Rattle.fe_base.specs.Limits.{greatest_step_limit}
-use Rattle.spike_front.specs.Words.{asm_words, behind_options, command_of, kernel_words, is_option, is_unbuilt_name, number_within, option_fault, option_value, plain_file, plain_words, limit_value, with_value}
+use Rattle.spike_front.specs.Words.{asm_words, behind_option, behind_options, command_of, kernel_words, is_option, is_unbuilt_name, no_options, number_within, plain_file, plain_words, limit_value, read_option}
+use Rattle.spike_front.specs.declared.words.PlainOptions.{PlainOptions}
 use Rattle.spike_front.specs.declared.words.UsageKind.TheVariants.{UnknownCommand, UnknownOption, BadNumber}
 use Rattle.spike_front.specs.declared.words.WordFault.{WordFault}
 use Rattle.spike_front.specs.declared.words.WordFault.TheVariants.{Usage, NotBuilt}
@@ -37,74 +38,63 @@ pub value_refused : (words : List (List ℕ)) (at : ℕ) (word : List ℕ) → s
     → limit_value at (drop at words) ≡ Err (Usage BadNumber at)
 value_refused words at word here number = ap (limit_value at) (drop-word words at word here) ∙ ap (λ (o : Option ℕ). ok_or o (Usage BadNumber at)) number
 
-first-file : (limit : Option ℕ) (at : ℕ) (word : List ℕ) (words : List (List ℕ)) → is_option word ≡ false
-    → plain_words limit at (word ∷ words) ≡ plain_file limit at (word ∷ words)
-first-file limit at word [] plain = if_true (not (is_option word)) _ _ (ap not plain)
-first-file limit at word (next ∷ words) plain = if_true (not (is_option word)) _ _ (ap not plain)
+first-file : (options : PlainOptions) (at : ℕ) (word : List ℕ) (words : List (List ℕ)) → is_option word ≡ false
+    → plain_words options at (word ∷ words) ≡ plain_file options at (word ∷ words)
+first-file options at word [] plain = if_true (not (is_option word)) _ _ (ap not plain)
+first-file options at word (next ∷ words) plain = if_true (not (is_option word)) _ _ (ap not plain)
 
-first-dashes : (limit : Option ℕ) (at : ℕ) (word : List ℕ) (words : List (List ℕ)) → is_option word ≡ true → bytes_eq word (codes "--") ≡ true
-    → plain_words limit at (word ∷ words) ≡ plain_file limit (at + 1) words
-first-dashes limit at word [] dash both = if_false (not (is_option word)) _ _ (ap not dash) ∙ if_true (bytes_eq word (codes "--")) _ _ both
-first-dashes limit at word (next ∷ words) dash both = if_false (not (is_option word)) _ _ (ap not dash) ∙ if_true (bytes_eq word (codes "--")) _ _ both
+first-dashes : (options : PlainOptions) (at : ℕ) (word : List ℕ) (words : List (List ℕ)) → is_option word ≡ true → bytes_eq word (codes "--") ≡ true
+    → plain_words options at (word ∷ words) ≡ plain_file options (at + 1) words
+first-dashes options at word [] dash both = if_false (not (is_option word)) _ _ (ap not dash) ∙ if_true (bytes_eq word (codes "--")) _ _ both
+first-dashes options at word (next ∷ words) dash both = if_false (not (is_option word)) _ _ (ap not dash) ∙ if_true (bytes_eq word (codes "--")) _ _ both
 
-first-option : (limit : Option ℕ) (at : ℕ) (word : List ℕ) (words : List (List ℕ)) → is_option word ≡ true → bytes_eq word (codes "--") ≡ false
-    → plain_words limit at (word ∷ words) ≡ with_value (option_value (option_fault limit at word) at words) (λ value. plain_words (Some value) (at + 2) (drop 1 words))
-first-option limit at word [] dash more = if_false (not (is_option word)) _ _ (ap not dash) ∙ if_false (bytes_eq word (codes "--")) _ _ more
-first-option limit at word (next ∷ words) dash more = if_false (not (is_option word)) _ _ (ap not dash) ∙ if_false (bytes_eq word (codes "--")) _ _ more
+first-option : (options : PlainOptions) (at : ℕ) (word : List ℕ) (words : List (List ℕ)) → is_option word ≡ true → bytes_eq word (codes "--") ≡ false
+    → plain_words options at (word ∷ words) ≡ behind_option (read_option options at word words) (λ given. plain_words given (at + 2) (drop 1 words))
+first-option options at word [] dash more = if_false (not (is_option word)) _ _ (ap not dash) ∙ if_false (bytes_eq word (codes "--")) _ _ more
+first-option options at word (next ∷ words) dash more = if_false (not (is_option word)) _ _ (ap not dash) ∙ if_false (bytes_eq word (codes "--")) _ _ more
 
 -- no word is left: FILE is missing
-pub words-none : (limit : Option ℕ) (at : ℕ) (words : List (List ℕ)) → length words ≤ at → plain_words limit at (drop at words) ≡ plain_file limit at (drop at words)
-words-none limit at words past =
+pub words-none : (options : PlainOptions) (at : ℕ) (words : List (List ℕ)) → length words ≤ at → plain_words options at (drop at words) ≡ plain_file options at (drop at words)
+words-none options at words past =
     let none : drop at words ≡ [] = drop_of_length-le words past in
-    ap (plain_words limit at) none ∙ sym (ap (plain_file limit at) none)
+    ap (plain_words options at) none ∙ sym (ap (plain_file options at) none)
 
 -- the next word is FILE
-pub words-file : (limit : Option ℕ) (at : ℕ) (words : List (List ℕ)) (word : List ℕ) → slice_get words at ≡ Some word → is_option word ≡ false
-    → plain_words limit at (drop at words) ≡ plain_file limit at (drop at words)
-words-file limit at words word here plain =
+pub words-file : (options : PlainOptions) (at : ℕ) (words : List (List ℕ)) (word : List ℕ) → slice_get words at ≡ Some word → is_option word ≡ false
+    → plain_words options at (drop at words) ≡ plain_file options at (drop at words)
+words-file options at words word here plain =
     let next : drop at words ≡ word ∷ drop (at + 1) words = drop-word words at word here in
-    ap (plain_words limit at) next ∙ first-file limit at word (drop (at + 1) words) plain ∙ sym (ap (plain_file limit at) next)
+    ap (plain_words options at) next ∙ first-file options at word (drop (at + 1) words) plain ∙ sym (ap (plain_file options at) next)
 
 -- the next word ends the options
-pub words-dashes : (limit : Option ℕ) (at : ℕ) (words : List (List ℕ)) (word : List ℕ) → slice_get words at ≡ Some word → is_option word ≡ true → bytes_eq word (codes "--") ≡ true
-    → plain_words limit at (drop at words) ≡ plain_file limit (at + 1) (drop (at + 1) words)
-words-dashes limit at words word here dash both = ap (plain_words limit at) (drop-word words at word here) ∙ first-dashes limit at word (drop (at + 1) words) dash both
+pub words-dashes : (options : PlainOptions) (at : ℕ) (words : List (List ℕ)) (word : List ℕ) → slice_get words at ≡ Some word → is_option word ≡ true → bytes_eq word (codes "--") ≡ true
+    → plain_words options at (drop at words) ≡ plain_file options (at + 1) (drop (at + 1) words)
+words-dashes options at words word here dash both = ap (plain_words options at) (drop-word words at word here) ∙ first-dashes options at word (drop (at + 1) words) dash both
 
--- the next word is an option: it is refused, or its value is, or the words behind its value are read
-words-option : (limit : Option ℕ) (at : ℕ) (words : List (List ℕ)) (word : List ℕ) → slice_get words at ≡ Some word → is_option word ≡ true → bytes_eq word (codes "--") ≡ false
-    → plain_words limit at (drop at words) ≡ with_value (option_value (option_fault limit at word) at (drop (at + 1) words)) (λ value. plain_words (Some value) (at + 2) (drop 1 (drop (at + 1) words)))
-words-option limit at words word here dash more = ap (plain_words limit at) (drop-word words at word here) ∙ first-option limit at word (drop (at + 1) words) dash more
+-- the next word is an option: it is refused, or the words behind its value are read
+words-option : (options : PlainOptions) (at : ℕ) (words : List (List ℕ)) (word : List ℕ) (value : Result PlainOptions WordFault) → slice_get words at ≡ Some word → is_option word ≡ true
+    → bytes_eq word (codes "--") ≡ false → read_option options at word (drop (at + 1) words) ≡ value
+    → plain_words options at (drop at words) ≡ behind_option value (λ given. plain_words given (at + 2) (drop 1 (drop (at + 1) words)))
+words-option options at words word value here dash more gives =
+    ap (plain_words options at) (drop-word words at word here)
+    ∙ first-option options at word (drop (at + 1) words) dash more
+    ∙ ap (λ (r : Result PlainOptions WordFault). behind_option r (λ given. plain_words given (at + 2) (drop 1 (drop (at + 1) words)))) gives
 
-pub words-refused : (limit : Option ℕ) (at : ℕ) (words : List (List ℕ)) (word : List ℕ) (fault : WordFault) → slice_get words at ≡ Some word → is_option word ≡ true → bytes_eq word (codes "--") ≡ false
-    → option_fault limit at word ≡ Some fault
-    → plain_words limit at (drop at words) ≡ Err fault
-words-refused limit at words word fault here dash more refused =
-    words-option limit at words word here dash more
-    ∙ ap (λ (o : Option WordFault). with_value (option_value o at (drop (at + 1) words)) (λ value. plain_words (Some value) (at + 2) (drop 1 (drop (at + 1) words)))) refused
-
-words-valued : (limit : Option ℕ) (at : ℕ) (words : List (List ℕ)) (word : List ℕ) (value : Result ℕ WordFault) → slice_get words at ≡ Some word → is_option word ≡ true → bytes_eq word (codes "--") ≡ false
-    → option_fault limit at word ≡ None → limit_value (at + 1) (drop (at + 1) words) ≡ value
-    → plain_words limit at (drop at words) ≡ with_value value (λ n. plain_words (Some n) (at + 2) (drop 1 (drop (at + 1) words)))
-words-valued limit at words word value here dash more known gives =
-    words-option limit at words word here dash more
-    ∙ ap (λ (o : Option WordFault). with_value (option_value o at (drop (at + 1) words)) (λ n. plain_words (Some n) (at + 2) (drop 1 (drop (at + 1) words)))) known
-    ∙ ap (λ (r : Result ℕ WordFault). with_value r (λ n. plain_words (Some n) (at + 2) (drop 1 (drop (at + 1) words)))) gives
-
-pub words-bad_value : (limit : Option ℕ) (at : ℕ) (words : List (List ℕ)) (word : List ℕ) (fault : WordFault) → slice_get words at ≡ Some word → is_option word ≡ true → bytes_eq word (codes "--") ≡ false
-    → option_fault limit at word ≡ None → limit_value (at + 1) (drop (at + 1) words) ≡ Err fault
-    → plain_words limit at (drop at words) ≡ Err fault
-words-bad_value limit at words word fault here dash more known gives = words-valued limit at words word (Err fault) here dash more known gives
+pub words-refused : (options : PlainOptions) (at : ℕ) (words : List (List ℕ)) (word : List ℕ) (fault : WordFault) → slice_get words at ≡ Some word → is_option word ≡ true
+    → bytes_eq word (codes "--") ≡ false → read_option options at word (drop (at + 1) words) ≡ Err fault
+    → plain_words options at (drop at words) ≡ Err fault
+words-refused options at words word fault here dash more gives = words-option options at words word (Err fault) here dash more gives
 
 drop-two : (words : List (List ℕ)) (at : ℕ) → drop 1 (drop (at + 1) words) ≡ drop (at + 2) words
 drop-two words at =
     let two : at + 1 + 1 ≡ at + 2 = omega arith in
     drop-drop 1 (at + 1) words ∙ ap (λ (n : ℕ). drop n words) two
 
-pub words-next : (limit : Option ℕ) (at n : ℕ) (words : List (List ℕ)) (word : List ℕ) → slice_get words at ≡ Some word → is_option word ≡ true → bytes_eq word (codes "--") ≡ false
-    → option_fault limit at word ≡ None → limit_value (at + 1) (drop (at + 1) words) ≡ Ok n
-    → plain_words limit at (drop at words) ≡ plain_words (Some n) (at + 2) (drop (at + 2) words)
-words-next limit at n words word here dash more known gives =
-    words-valued limit at words word (Ok n) here dash more known gives ∙ ap (plain_words (Some n) (at + 2)) (drop-two words at)
+pub words-next : (options given : PlainOptions) (at : ℕ) (words : List (List ℕ)) (word : List ℕ) → slice_get words at ≡ Some word → is_option word ≡ true
+    → bytes_eq word (codes "--") ≡ false → read_option options at word (drop (at + 1) words) ≡ Ok given
+    → plain_words options at (drop at words) ≡ plain_words given (at + 2) (drop (at + 2) words)
+words-next options given at words word here dash more gives =
+    words-option options at words word (Ok given) here dash more gives ∙ ap (plain_words given (at + 2)) (drop-two words at)
 
 -- where the words behind no options begin
 pub behind-none : (words : List (List ℕ)) → length words < 2 → behind_options (drop 1 words) ≡ Ok 1
@@ -129,7 +119,7 @@ command-first words name here = drop-word words 0 name here
 count-behind : (words : List (List ℕ)) (name : List ℕ) → slice_get words 0 ≡ Some name → length (drop 1 words) + 1 ≡ length words
 count-behind words name here = omega (arith, ap length (command-first words name here))
 
-pub command-plain : (words : List (List ℕ)) (name : List ℕ) → slice_get words 0 ≡ Some name → bytes_eq name (codes "plain") ≡ true → command_of words ≡ plain_words None 1 (drop 1 words)
+pub command-plain : (words : List (List ℕ)) (name : List ℕ) → slice_get words 0 ≡ Some name → bytes_eq name (codes "plain") ≡ true → command_of words ≡ plain_words no_options 1 (drop 1 words)
 command-plain words name here same = ap command_of (command-first words name here) ∙ if_true (bytes_eq name (codes "plain")) _ _ same
 
 pub command-kernel : (words : List (List ℕ)) (name : List ℕ) → slice_get words 0 ≡ Some name → bytes_eq name (codes "plain") ≡ false → bytes_eq name (codes "kernel") ≡ true

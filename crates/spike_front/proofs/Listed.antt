@@ -29,7 +29,7 @@ text_lists listing text (l, planned, lists) = subst (λ (m : Listing). Lists m t
 
 -- a text that was made is one that the command may put
 pub put_may : (asked : Result Command WordFault) (words : List (List ℕ)) (text : List ℕ) → IsPlanFor asked words (Put text) → MayPut asked text
-put_may (Ok (Plain limit file)) words text kind = kind
+put_may (Ok (Plain limit folder file)) words text kind = kind
 put_may (Ok Kernel) words text kind = text_lists kernel_listing text kind
 put_may (Ok (Asm file)) words text kind = kind
 put_may (Err fault) words text kind = cc

@@ -40,11 +40,14 @@ stop_of_run e stop = inr (inl stop)
 -- no answer of a run refuses
 pub run_not_refusal : (a : Answer) → IsRunAnswer a → IsRefusal a → ⊥
 run_not_refusal a (inl ran) (inl refused) = cc
-run_not_refusal a (inl ran) (inr refused) = cc
+run_not_refusal a (inl ran) (inr (inl refused)) = cc
+run_not_refusal a (inl ran) (inr (inr refused)) = cc
 run_not_refusal a (inr (inl stopped)) (inl refused) = cc
-run_not_refusal a (inr (inl stopped)) (inr refused) = cc
+run_not_refusal a (inr (inl stopped)) (inr (inl refused)) = cc
+run_not_refusal a (inr (inl stopped)) (inr (inr refused)) = cc
 run_not_refusal a (inr (inr failed)) (inl refused) = cc
-run_not_refusal a (inr (inr failed)) (inr refused) = cc
+run_not_refusal a (inr (inr failed)) (inr (inl refused)) = cc
+run_not_refusal a (inr (inr failed)) (inr (inr refused)) = cc
 
 -- an answer of a run that comes before a first step stops the work
 pub early_run_stops : (a : Answer) → IsRunAnswer a → IsEarly a → IsStop a
@@ -64,7 +67,8 @@ stop_back limit (EndFault NotBuiltStop) stop = cc
 -- no answer but the report's fault takes the place of another
 report_not_refusal : (a : Answer) → a ≡ ReportFault → IsRefusal a → ⊥
 report_not_refusal a is (inl refused) = other_stage a ReportFault refused (λ e. cc) is
-report_not_refusal a is (inr refused) = other_stage a ReportFault refused (λ e. cc) is
+report_not_refusal a is (inr (inl refused)) = other_stage a ReportFault refused (λ e. cc) is
+report_not_refusal a is (inr (inr refused)) = other_stage a ReportFault refused (λ e. cc) is
 
 report_not_early : (a : Answer) → a ≡ ReportFault → IsEarly a → ⊥
 report_not_early a is (inl refused) = report_not_refusal a is refused

@@ -1,16 +1,17 @@
 -- Where the work stands as an answer comes, and the classes of answers that the contracts speak of.
 use Rattle.std.specs.Prelude.{◌≡◌, ◌⊎◌, ◌==◌, if◌then◌else◌}
 use Rattle.spike_front.specs.declared.answer.Answer.{Answer}
-use Rattle.spike_front.specs.declared.answer.Answer.TheVariants.{Done, Exited, Usage, NoProgram, BadElf, ArgsTooLong}
-use Rattle.spike_front.specs.declared.answer.Answer.TheVariants.{BadAsm, StepsSpent, FileFault, InputFault}
+use Rattle.spike_front.specs.declared.answer.Answer.TheVariants.{Done, Exited, Usage, NoProgram, BadElf, NoFolder}
+use Rattle.spike_front.specs.declared.answer.Answer.TheVariants.{ArgsTooLong, BadAsm, StepsSpent, FileFault, InputFault}
 use Rattle.spike_front.specs.declared.answer.Answer.TheVariants.{ConsoleFault, ReportFault, OutOfMemory, NotBuilt}
 
--- where the work stands: the words are refused, or the file with its arguments; a listing was put; a run has gone to
--- its end, to its limit or to a step that is not built; the folder failed or there was no memory; the input or the
--- console failed; the report's line could not be put
+-- where the work stands: the words are refused, or the file, or the folder and the arguments that its program would
+-- have; a listing was put; a run has gone to its end, to its limit or to a step that is not built; the folder failed or
+-- there was no memory; the input or the console failed; the report's line could not be put
 pub data Stage : Type 0 where
   words_refused : Stage
   file_refused : Stage
+  setting_refused : Stage
   listing_put : Stage
   run_made : Stage
   work_stopped : Stage
@@ -24,7 +25,8 @@ stage_of (Exited status) = run_made
 stage_of (Usage kind place) = words_refused
 stage_of NoProgram = file_refused
 stage_of (BadElf fault) = file_refused
-stage_of (ArgsTooLong n) = file_refused
+stage_of NoFolder = setting_refused
+stage_of (ArgsTooLong n) = setting_refused
 stage_of (BadAsm line kind) = file_refused
 stage_of (StepsSpent n) = run_made
 stage_of FileFault = work_stopped
@@ -38,9 +40,13 @@ stage_of (NotBuilt kind) = if kind == 3 then run_made else words_refused
 abbrev pub IsWordsRefusal : Answer → Type 0
 IsWordsRefusal answer = stage_of answer ≡ words_refused
 
--- the answers that refuse before a run: the words, or the file with its arguments
+-- the answers that refuse a program's file, or what it would run with
+abbrev pub IsProgramRefusal : Answer → Type 0
+IsProgramRefusal answer = (stage_of answer ≡ file_refused) ⊎ (stage_of answer ≡ setting_refused)
+
+-- the answers that refuse before a run: the words, or a file, or what its program would run with
 abbrev pub IsRefusal : Answer → Type 0
-IsRefusal answer = (stage_of answer ≡ words_refused) ⊎ (stage_of answer ≡ file_refused)
+IsRefusal answer = (stage_of answer ≡ words_refused) ⊎ IsProgramRefusal answer
 
 -- what can end the work before a run: the folder failed, or there was no memory
 abbrev pub IsStop : Answer → Type 0

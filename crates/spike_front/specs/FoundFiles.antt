@@ -1,9 +1,9 @@
--- The file that a word names: what is found at its path, and what finding it leaves of a tree.
-use Rattle.std.specs.Prelude.{◌≡◌, ◌<◌, ◌≤◌, ◌⊎◌, ℕ, ⊤, List, length, Option, Some, None, Result, Ok, Err}
+-- The file, or the directory, that a word names: what is found at its path, and what finding it leaves of a tree.
+use Rattle.std.specs.Prelude.{◌≡◌, ◌<◌, ◌≤◌, ◌⊎◌, ℕ, ⊤, if◌then◌else◌, List, length, Option, Some, None, Result, Ok, Err}
 use Rattle.fe_base.specs.declared.error_numbers.ErrNo.{ErrNo}
 use Rattle.folder_tree.specs.Paths.{Parts, path_of}
-use Rattle.folder_tree.specs.Tree.{Tree, file_of, files_of, number_at}
-use Rattle.folder_tree.specs.TreeOps.{opened}
+use Rattle.folder_tree.specs.Tree.{Tree, file_of, files_of, kind_of, number_at}
+use Rattle.folder_tree.specs.TreeOps.{is_directory, opened}
 use Rattle.folder_tree.specs.declared.folder.FolderStop.{FolderStop}
 use Rattle.folder_tree.specs.declared.folder.FolderStop.TheVariants.{Failed, NoMemory}
 use Rattle.spike_front.specs.declared.file.Stop.{Stop}
@@ -19,6 +19,15 @@ file_at (Err number) t = None
 -- the file that a word names
 abbrev pub file_named : List ℕ → Tree → Option (List ℕ)
 file_named word t = file_at (path_of word) t
+
+-- the path that was read, where it is that of a directory; what is no path names none
+abbrev pub directory_at : Result Parts ErrNo → Tree → Option Parts
+directory_at (Ok path) t = if is_directory (kind_of t path) then Some path else None
+directory_at (Err number) t = None
+
+-- the path of the directory that a word names
+abbrev pub directory_named : List ℕ → Tree → Option Parts
+directory_named word t = directory_at (path_of word) t
 
 -- what was read of an open file with these bytes, where at most so many are read
 abbrev pub IsReadOf : ℕ → List ℕ → FoundFile → Type 0

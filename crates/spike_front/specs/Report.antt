@@ -7,8 +7,8 @@ use Rattle.elf_loader.specs.declared.fault.ElfFault.TheVariants.{TooLarge, Short
 use Rattle.elf_loader.specs.declared.fault.ElfFault.TheVariants.{Machine, Flags, HeaderSize, Headers, Dynamic, Segment}
 use Rattle.elf_loader.specs.declared.fault.ElfFault.TheVariants.{Outside, Overlap, Entry}
 use Rattle.spike_front.specs.declared.answer.Answer.{Answer}
-use Rattle.spike_front.specs.declared.answer.Answer.TheVariants.{Done, Exited, Usage, NoProgram, BadElf, ArgsTooLong}
-use Rattle.spike_front.specs.declared.answer.Answer.TheVariants.{BadAsm, StepsSpent, FileFault, InputFault}
+use Rattle.spike_front.specs.declared.answer.Answer.TheVariants.{Done, Exited, Usage, NoProgram, BadElf, NoFolder}
+use Rattle.spike_front.specs.declared.answer.Answer.TheVariants.{ArgsTooLong, BadAsm, StepsSpent, FileFault, InputFault}
 use Rattle.spike_front.specs.declared.answer.Answer.TheVariants.{ConsoleFault, ReportFault, OutOfMemory, NotBuilt}
 
 -- the status of the process
@@ -18,6 +18,7 @@ code_of (Exited status) = status
 code_of (Usage kind place) = 64
 code_of NoProgram = 65
 code_of (BadElf fault) = 66
+code_of NoFolder = 67
 code_of (ArgsTooLong n) = 68
 code_of FileFault = 70
 code_of InputFault = 71
@@ -61,6 +62,7 @@ line_of (Usage kind place) steps =
     codes "pkfe: usage " ++ (decimal kind ++ (codes " at " ++ (decimal place ++ codes "\n")))
 line_of NoProgram steps = codes "pkfe: no program\n"
 line_of (BadElf fault) steps = codes "pkfe: bad elf " ++ (decimal (number_of fault) ++ (places_of fault ++ codes "\n"))
+line_of NoFolder steps = codes "pkfe: no folder\n"
 line_of (ArgsTooLong n) steps = codes "pkfe: arguments need " ++ (decimal n ++ codes " bytes\n")
 line_of (BadAsm line kind) steps =
     codes "pkfe: asm fault " ++ (decimal kind ++ (codes " at line " ++ (decimal line ++ codes "\n")))

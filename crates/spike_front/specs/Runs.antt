@@ -1,6 +1,7 @@
 -- What a run leaves and answers, by the direct run.
 use Rattle.std.specs.Prelude.{◌≡◌, ◌≢◌, [], ◌≤◌, ◌<◌, ◌↔◌, ◌⊎◌, ℕ, true, false, List, Option, Some, None}
 use Rattle.elf_loader.specs.declared.image.Image.{Image}
+use Rattle.folder_tree.specs.Paths.{Parts}
 use Rattle.folder_tree.specs.Tree.{Tree, IsWellFormed}
 use Rattle.plain_machine.specs.Direct.{World, Tells, DirectState, direct_after, direct_start, status_of, is_built}
 use Rattle.plain_machine.specs.Direct.{step_puts}
@@ -19,23 +20,25 @@ use Rattle.spike_front.specs.Answers.{IsEarly, IsRunAnswer, Yields}
 use Rattle.spike_front.specs.Plans.{plan_of, run}
 use Rattle.spike_front.specs.FoundFiles.{HasFiles}
 
--- a run: the world that it begins in, the image and the arguments of its program, and the most steps that it may make
+-- a run: the world that it begins in, the image and the arguments of its program, the path of the folder under which
+-- its own paths stand, and the most steps that it may make
 pub record RunCase : Type 0 where
   pub world : World
   pub image : Image
   pub args : List (List ℕ)
+  pub root : Parts
   pub limit : ℕ
 
--- the run of this image in this world, with these arguments and this limit
-abbrev pub case_of : World → Image → List (List ℕ) → ℕ → RunCase
-case_of w image args limit = record { world = w; image = image; args = args; limit = limit }
+-- the run of this image in this world, with these arguments, under this path and with this limit
+abbrev pub case_of : World → Image → List (List ℕ) → Parts → ℕ → RunCase
+case_of w image args root limit = record { world = w; image = image; args = args; root = root; limit = limit }
 
 -- the words ask for this run, and the objects tell its world, whose tree is well formed
 pub record Asks (words : List (List ℕ)) (c : RunCase) (input console : Option (List ℕ)) (tree : Option Tree)
     : Type 0 where
   pub formed : IsWellFormed c.world.tree
   pub told : Tells c.world input console tree
-  pub planned : plan_of words c.world.tree ≡ run c.image c.args c.limit
+  pub planned : plan_of words c.world.tree ≡ run c.image c.args c.root c.limit
 
 -- where the direct run of a case stands after so many steps
 abbrev pub state_after : ℕ → RunCase → DirectState

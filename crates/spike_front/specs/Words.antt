@@ -1,12 +1,13 @@
 -- The words of the command line: which are a command, and where and how all others fail first.
 use Rattle.std.specs.Prelude.{ℕ, ⊤, ◌+◌, ◌<◌, ◌==◌, ◌&&◌, ◌||◌, not, nat_lt, nat_le, if◌then◌else◌, Bool, false, List}
-use Rattle.std.specs.Prelude.{[], ◌∷◌, length, codes, bytes_eq, Option, Some, None, is_some, unwrap_or, ok_or, Result}
+use Rattle.std.specs.Prelude.{[], ◌∷◌, length, codes, bytes_eq, Option, Some, None, IfSome, unwrap_or, ok_or, Result}
 use Rattle.std.specs.Prelude.{Ok, Err}
 use Rattle.std.specs.Str.{all_ascii_digits}
 use Rattle.std.specs.Str.Parse.{digits_value}
 use Rattle.fe_base.specs.Limits.{default_step_limit, greatest_step_limit}
 use Rattle.spike_front.specs.declared.words.Command.{Command}
 use Rattle.spike_front.specs.declared.words.Command.TheVariants.{Plain, Kernel, Asm}
+use Rattle.spike_front.specs.declared.words.PlainOptions.{PlainOptions}
 use Rattle.spike_front.specs.declared.words.UsageKind.{UsageKind}
 use Rattle.spike_front.specs.declared.words.UsageKind.TheVariants.{NoCommand, UnknownCommand, UnknownOption}
 use Rattle.spike_front.specs.declared.words.UsageKind.TheVariants.{OptionRepeated, ValueMissing, BadNumber, FileMissing}
@@ -49,43 +50,63 @@ abbrev pub limit_value : ℕ → List (List ℕ) → Result ℕ WordFault
 limit_value place [] = Err (Usage ValueMissing place)
 limit_value place (value ∷ words) = ok_or (number_within 1 greatest_step_limit value) (Usage BadNumber place)
 
--- why an option at a place is refused whatever its value: it is not built, there is none such, or it was given before
-abbrev pub option_fault : Option ℕ → ℕ → List ℕ → Option WordFault
-option_fault limit place word =
-    if bytes_eq word (codes "--folder") then Some NotBuilt
-    else if not (bytes_eq word (codes "--steps")) then Some (Usage UnknownOption place)
-    else if is_some limit then Some (Usage OptionRepeated place)
-    else None
+-- the first of these words is a value whatever it is; it stands at a place, or is missing there
+abbrev pub any_value : ℕ → List (List ℕ) → Result ℕ WordFault
+any_value place [] = Err (Usage ValueMissing place)
+any_value place (value ∷ words) = Ok place
 
--- the limit that an option at a place gives by the first of the words behind it, unless the option is refused
-abbrev pub option_value : Option WordFault → ℕ → List (List ℕ) → Result ℕ WordFault
-option_value (Some fault) place words = Err fault
-option_value None place words = limit_value (place + 1) words
+-- the option at a place was not given before
+abbrev pub first_time : {A : Type 0} → Option A → ℕ → Result ℕ WordFault → Result ℕ WordFault
+first_time None place value = value
+first_time (Some before) place value = Err (Usage OptionRepeated place)
+
+-- the options of `plain` with a limit
+abbrev pub with_limit : PlainOptions → Result ℕ WordFault → Result PlainOptions WordFault
+with_limit options (Ok value) = Ok (record options { limit = Some value })
+with_limit options (Err fault) = Err fault
+
+-- and with the place of DIR
+abbrev pub with_folder : PlainOptions → Result ℕ WordFault → Result PlainOptions WordFault
+with_folder options (Ok place) = Ok (record options { folder = Some place })
+with_folder options (Err fault) = Err fault
+
+-- the options of `plain` with the one at a place, whose value is the first of the words behind it
+abbrev pub read_option : PlainOptions → ℕ → List ℕ → List (List ℕ) → Result PlainOptions WordFault
+read_option options place word words =
+    if bytes_eq word (codes "--steps")
+    then with_limit options (first_time options.limit place (limit_value (place + 1) words))
+    else if bytes_eq word (codes "--folder")
+    then with_folder options (first_time options.folder place (any_value (place + 1) words))
+    else Err (Usage UnknownOption place)
 
 -- `plain` with the first of these words, which stands at a place, as FILE
-abbrev pub plain_file : Option ℕ → ℕ → List (List ℕ) → Result Command WordFault
-plain_file limit place [] = Err (Usage FileMissing place)
-plain_file limit place (file ∷ words) = Ok (Plain (unwrap_or limit default_step_limit) place)
+abbrev pub plain_file : PlainOptions → ℕ → List (List ℕ) → Result Command WordFault
+plain_file options place [] = Err (Usage FileMissing place)
+plain_file options place (file ∷ words) =
+    Ok (Plain (unwrap_or options.limit default_step_limit) options.folder place)
 
--- what is read behind a value, or the failure of that value
-abbrev pub with_value : Result ℕ WordFault → (ℕ → Result Command WordFault) → Result Command WordFault
-with_value (Ok value) behind = behind value
-with_value (Err fault) behind = Err fault
+-- what is read behind an option, or the failure of that option
+abbrev pub behind_option : Result PlainOptions WordFault → (PlainOptions → Result Command WordFault)
+    → Result Command WordFault
+behind_option (Ok options) behind = behind options
+behind_option (Err fault) behind = Err fault
 
 -- `plain` with these words, the first of which stands at a place: options with their values, `--` if the next word
 -- begins with a dash, and FILE
-abbrev pub plain_words : Option ℕ → ℕ → List (List ℕ) → Result Command WordFault
-plain_words limit place [] = plain_file limit place []
-plain_words limit place (word ∷ []) =
-    if not (is_option word) then plain_file limit place (word ∷ [])
-    else if bytes_eq word (codes "--") then plain_file limit (place + 1) []
-    else with_value (option_value (option_fault limit place word) place [])
-    (λ value. plain_file (Some value) (place + 2) [])
-plain_words limit place (word ∷ next ∷ words) =
-    if not (is_option word) then plain_file limit place (word ∷ next ∷ words)
-    else if bytes_eq word (codes "--") then plain_file limit (place + 1) (next ∷ words)
-    else with_value (option_value (option_fault limit place word) place (next ∷ words))
-    (λ value. plain_words (Some value) (place + 2) words)
+abbrev pub plain_words : PlainOptions → ℕ → List (List ℕ) → Result Command WordFault
+plain_words options place [] = plain_file options place []
+plain_words options place (word ∷ []) =
+    if not (is_option word) then plain_file options place (word ∷ [])
+    else if bytes_eq word (codes "--") then plain_file options (place + 1) []
+    else behind_option (read_option options place word []) (λ more. plain_file more (place + 2) [])
+plain_words options place (word ∷ next ∷ words) =
+    if not (is_option word) then plain_file options place (word ∷ next ∷ words)
+    else if bytes_eq word (codes "--") then plain_file options (place + 1) (next ∷ words)
+    else behind_option (read_option options place word (next ∷ words)) (λ more. plain_words more (place + 2) words)
+
+-- `plain` before its first option
+abbrev pub no_options : PlainOptions
+no_options = record { limit = None; folder = None }
 
 -- where the words behind the options begin, of a command that has none: behind `--`, if that comes first
 abbrev pub behind_options : List (List ℕ) → Result ℕ WordFault
@@ -112,21 +133,26 @@ asm_words count (Err fault) = Err fault
 abbrev pub command_of : List (List ℕ) → Result Command WordFault
 command_of [] = Err (Usage NoCommand 0)
 command_of (name ∷ words) =
-    if bytes_eq name (codes "plain") then plain_words None 1 words
+    if bytes_eq name (codes "plain") then plain_words no_options 1 words
     else if bytes_eq name (codes "kernel") then kernel_words (length words + 1) (behind_options words)
     else if bytes_eq name (codes "asm") then asm_words (length words + 1) (behind_options words)
     else if is_unbuilt_name name then Err NotBuilt
     else Err (Usage UnknownCommand 0)
 
--- some steps may be made, and FILE is one of so many words
+-- options of so many words: a limit allows some step, and DIR is one of the words
+pub record AreSound (count : ℕ) (options : PlainOptions) : Type 0 where
+  pub some : IfSome options.limit (λ limit. 0 < limit)
+  pub within : IfSome options.folder (λ place. place < count)
+
+-- some steps may be made, and FILE and DIR are of so many words
 abbrev pub IsSound : ℕ → Command → Type 0
-IsSound count (Plain limit file) = (0 < limit) × (file < count)
+IsSound count (Plain limit folder file) = (0 < limit) × IfSome folder (λ place. place < count) × (file < count)
 IsSound count Kernel = ⊤
 IsSound count (Asm file) = file < count
 
 -- what a command counts before its first step: a run its steps, the others nothing
 abbrev pub first_count : Result Command WordFault → Option ℕ
-first_count (Ok (Plain limit file)) = Some 0
+first_count (Ok (Plain limit folder file)) = Some 0
 first_count (Ok Kernel) = None
 first_count (Ok (Asm file)) = None
 first_count (Err fault) = None

@@ -17,6 +17,8 @@ pub enum Answer {
     NoProgram,
     /// The file has this fault.
     BadElf(ElfFault),
+    /// The word of `--folder` names no directory of the folder.
+    NoFolder,
     /// The arguments would take so many bytes on the program's stack, which is more than 65,536.
     ArgsTooLong(u64),
     /// The line of the assembly text has a fault of this kind, or the file is too large: kind 9 at line 0.
@@ -50,6 +52,7 @@ impl Answer {
             Answer::Usage(_, _) => 64,
             Answer::NoProgram => 65,
             Answer::BadElf(_) => 66,
+            Answer::NoFolder => 67,
             Answer::ArgsTooLong(_) => 68,
             Answer::FileFault => 70,
             Answer::InputFault => 71,

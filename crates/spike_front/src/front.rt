@@ -191,8 +191,15 @@ fn command<I: Source, C: Sink, F: Folder>(
             answer: put_listing(&text, console),
             steps: None,
         },
-        Ok(Plan::Run(image, args, limit)) => {
-            let end = run_program(alloc, image, &args, limit, input, console, folder);
+        Ok(
+            Plan::Run {
+                image,
+                args,
+                root,
+                limit,
+            },
+        ) => {
+            let end = run_program(alloc, image, &args, root, limit, input, console, folder);
             Ending {
                 answer: end.answer,
                 steps: Some(end.steps),

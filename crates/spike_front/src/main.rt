@@ -44,6 +44,7 @@
 #![tactic(auto)]
 
 mod answer;
+mod directory;
 mod file;
 mod front;
 mod listing;

@@ -1,19 +1,22 @@
 // What the words ask for, judged before anything is put or run.
-ghost use Rattle.std.specs.Prelude.{◌≡◌, ◌≤◌, ◌<◌, ℕ, List, IfOk, OnErr, IsErrOf, Some, Ok, Err};
+ghost use Rattle.std.specs.Prelude.{◌≡◌, ◌≤◌, ◌<◌, ℕ, List, IfOk, IfSome, OnErr, IsErrOf, Some, Ok, Err};
 ghost use Rattle.std.specs.Prelude.{drop, length, slice_index_or};
-ghost use Rattle.elf_loader.specs.ElfFile.{fault_of};
+ghost use Rattle.elf_loader.specs.ElfFile.{IsFit, fault_of};
+ghost use Rattle.elf_loader.specs.Rules.{user_rules};
+ghost use Rattle.folder_tree.specs.Paths.{path_text};
 ghost use Rattle.folder_tree.specs.Tree.{Tree, IsWellFormed};
-ghost use Rattle.fe_base.specs.Limits.{assembly_file_limit};
+ghost use Rattle.fe_base.specs.Limits.{assembly_file_limit, path_text_limit};
 ghost use Rattle.asm_text.specs.Texts.{text_items};
 ghost use Rattle.spike_front.specs.Causes.{RoseFor};
 ghost use Rattle.spike_front.specs.FoundFiles.{HasFiles, StaysOrOpens};
 ghost use Rattle.spike_front.specs.Plans.{FitsPlan, IsPlan, IsPlanFor, IsProgramPlan, IsSourcePlan, NamesNone};
-ghost use Rattle.spike_front.specs.Plans.{answer_of_fault, named_file, plan_of, planned_image, planned_run};
-ghost use Rattle.spike_front.specs.Plans.{planned_source, planned_text};
+ghost use Rattle.spike_front.specs.Plans.{answer_of_fault, folder_word, named_file, named_folder, plan_of};
+ghost use Rattle.spike_front.specs.Plans.{planned_args, planned_image, planned_run, planned_source, planned_text};
 ghost use Rattle.spike_front.specs.Words.{IsSound, command_of};
 ghost use Rattle.spike_front.specs.declared.words.WordFault.{WordFault};
 
 use crate::answer::Answer;
+use crate::directory::find_directory;
 use crate::file::{FoundFile, Stop, find_named};
 use crate::listing::{kernel_text, word_lines};
 use crate::words::{Command, WordFault};
@@ -22,7 +25,7 @@ use asm_text::{Lines, TextFault, read_asm};
 use elf_loader::{ElfFault, ElfStop, Image, main_vars_len, read_elf};
 use fe_base::limits::{ASSEMBLY_FILE_LIMIT, ELF_FILE_LIMIT, MAIN_VARS_LIMIT};
 use fe_base::{Bytes, Words};
-use folder_tree::Folder;
+use folder_tree::{Folder, Path};
 use std::alloc::{AllocError, Global};
 
 /// What is done for the words.
@@ -32,8 +35,14 @@ pub enum Plan {
     Refuse(Answer),
     /// This text is put on the console.
     Put(Bytes),
-    /// The program of this image is run with these arguments, for so many steps at most.
-    Run(Image, Words, u64),
+    /// The program of this image is run with these arguments, its paths standing under this root, for so many steps at
+    /// most.
+    Run {
+        image: Image,
+        args: Words,
+        root: Path,
+        limit: u64,
+    },
 }
 
 impl WordFault {
@@ -62,44 +71,91 @@ fn words_from(alloc: Global, words: &Words, from: usize) -> Result<Words, AllocE
     Ok(copy)
 }
 
-// What is done with the bytes of the file that the word at the index names.
-fn plan_image(
+// The text of DIR, which stands at the index; with no bytes, where there is none, it names the folder's root.
+fn folder_word(words: &Words, folder: Option<usize>) -> &str
+    requires { IfSome folder (λ place. place < length words.now) }
+    ensures { result.now ≡ folder_word folder words.now }
+{
+    match folder {
+        Some(place) => words.word(place),
+        None => "",
+    }
+}
+
+// What is done with an image that may be run under a root, where its arguments begin at the index.
+fn plan_args(
     alloc: Global,
     words: &Words,
     file: usize,
     limit: u64,
-    bytes: &[u8],
+    image: Image,
+    root: Path,
 ) -> Result<Plan, Stop>
-    requires { file ≤ length words.now }
-    ensures told { IfOk result (λ plan.
-        IsPlan plan (planned_image limit (drop file words.now) bytes.now (fault_of bytes.now))) }
+    requires file { file ≤ length words.now }
+    requires fit { IsFit user_rules image }
+    requires root { length (path_text root) ≤ path_text_limit }
+    ensures told { IfOk result (λ plan. IsPlan plan (planned_args image (drop file words.now) root limit)) }
     ensures kind { IfOk result (IsProgramPlan (drop file words.now) limit) }
     ensures memory { OnErr result (result ≡ Err Stop.OutOfMemory) }
+{
+    let args = words_from(alloc, words, file)?;
+    let needed = main_vars_len(&args);
+    if needed > MAIN_VARS_LIMIT {
+        return Ok(Plan::Refuse(Answer::ArgsTooLong(needed)));
+    }
+    Ok(Plan::Run {
+        image,
+        args,
+        root,
+        limit,
+    })
+}
+
+// What is done with the bytes of the file that the word at the index names.
+fn plan_image<F: Folder>(
+    alloc: Global,
+    words: &Words,
+    limit: u64,
+    under: Option<usize>,
+    file: usize,
+    bytes: &[u8],
+    folder: &mut F,
+) -> Result<Plan, Stop>
+    requires file { file ≤ length words.now }
+    requires under { IfSome under (λ place. place < length words.now) }
+    ensures told { IfOk result (λ plan. (t : Tree) → F.tree folder.old ≡ Some t
+        → IsPlan plan (planned_image limit (named_folder under words.now t) (drop file words.now) bytes.now
+        (fault_of bytes.now))) }
+    ensures kind { IfOk result (IsProgramPlan (drop file words.now) limit) }
+    ensures tree { (t : Tree) → F.tree folder.old ≡ Some t → F.tree folder.new ≡ Some t }
+    ensures cause { RoseFor (IsErrOf result Stop.FileFault) (F.faults folder.old) (F.faults folder.new) }
+    ensures steady { (t : Tree) → F.tree folder.old ≡ Some t → F.steady folder.old
+        → (IsErrOf result Stop.FileFault → ⊥) × F.steady folder.new }
 {
     let image = match read_elf(alloc, bytes) {
         Ok(image) => image,
         Err(ElfStop::Bad(fault)) => return Ok(Plan::Refuse(Answer::BadElf(fault))),
         Err(ElfStop::OutOfMemory) => return Err(Stop::OutOfMemory),
     };
-    let args = words_from(alloc, words, file)?;
-    let needed = main_vars_len(&args);
-    if needed > MAIN_VARS_LIMIT {
-        return Ok(Plan::Refuse(Answer::ArgsTooLong(needed)));
+    match find_directory(folder, folder_word(words, under))? {
+        Some(root) => plan_args(alloc, words, file, limit, image, root),
+        None => Ok(Plan::Refuse(Answer::NoFolder)),
     }
-    Ok(Plan::Run(image, args, limit))
 }
 
 // What is done for the file that the word at the index names.
 fn plan_run<F: Folder>(
     alloc: Global,
     words: &Words,
-    file: usize,
     limit: u64,
+    under: Option<usize>,
+    file: usize,
     folder: &mut F,
 ) -> Result<Plan, Stop>
-    requires { file < length words.now }
+    requires file { file < length words.now }
+    requires under { IfSome under (λ place. place < length words.now) }
     ensures told { IfOk result (λ plan. (t : Tree) → IsWellFormed t → F.tree folder.old ≡ Some t
-        → IsPlan plan (planned_run limit file words.now t) × (F.tree folder.new ≡ Some t)) }
+        → IsPlan plan (planned_run limit under file words.now t) × (F.tree folder.new ≡ Some t)) }
     ensures files { (t : Tree) → F.tree folder.old ≡ Some t → HasFiles t (F.tree folder.new) }
     ensures opens { (t : Tree) → IsWellFormed t → F.tree folder.old ≡ Some t → StaysOrOpens t (F.tree folder.new) }
     ensures kind { IfOk result (IsProgramPlan (drop file words.now) limit) }
@@ -110,7 +166,7 @@ fn plan_run<F: Folder>(
     match find_named(alloc, folder, words.word(file), ELF_FILE_LIMIT)? {
         FoundFile::Missing => Ok(Plan::Refuse(Answer::NoProgram)),
         FoundFile::TooLarge => Ok(Plan::Refuse(Answer::BadElf(ElfFault::TooLarge))),
-        FoundFile::Bytes(bytes) => plan_image(alloc, words, file, limit, &bytes),
+        FoundFile::Bytes(bytes) => plan_image(alloc, words, limit, under, file, &bytes, folder),
     }
 }
 
@@ -199,7 +255,13 @@ pub fn make_plan<F: Folder>(
         → (IsErrOf result Stop.FileFault → ⊥) × F.steady folder.new }
 {
     match asked {
-        Ok(Command::Plain { limit, file }) => plan_run(alloc, words, file, limit, folder),
+        Ok(
+            Command::Plain {
+                limit,
+                folder: under,
+                file,
+            },
+        ) => plan_run(alloc, words, limit, under, file, folder),
         Ok(Command::Kernel) => Ok(Plan::Put(kernel_text(alloc)?)),
         Ok(Command::Asm { file }) => plan_asm(alloc, words, file, folder),
         Err(fault) => Ok(Plan::Refuse(fault.answer())),

@@ -133,6 +133,7 @@ pub fn line_of(answer: Answer, steps: Option<u64>) -> Line
         Answer::Usage(kind, place) => usage(kind, place),
         Answer::NoProgram => text("pkfe: no program\n"),
         Answer::BadElf(fault) => bad_elf(fault),
+        Answer::NoFolder => text("pkfe: no folder\n"),
         Answer::ArgsTooLong(bytes) => ended(numbered("pkfe: arguments need ", bytes), " bytes\n"),
         Answer::BadAsm(text_line, kind) => bad_asm(text_line, kind),
         Answer::StepsSpent(_) => counted(text("pkfe: steps spent"), steps),

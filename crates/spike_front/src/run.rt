@@ -1,13 +1,10 @@
 // A run of a program on the direct machine.
 ghost use Rattle.std.specs.Prelude.{◌≡◌, ◌≢◌, [], ◌≤◌, ◌<◌, ◌+◌, ℕ, length};
-ghost use Rattle.fe_base.specs.Limits.{main_vars_limit};
 ghost use Rattle.fe_base.specs.Outside.{capacity};
-ghost use Rattle.fe_base.specs.WordLists.{main_vars_length};
-ghost use Rattle.elf_loader.specs.ElfFile.{IsFit};
-ghost use Rattle.elf_loader.specs.Rules.{user_rules};
 ghost use Rattle.plain_machine.specs.Direct.{World, Tells, HasRoomFor, step_puts};
 ghost use Rattle.spike_front.specs.Answers.{IsEarly, IsRunAnswer};
 ghost use Rattle.spike_front.specs.Causes.{RoseFor};
+ghost use Rattle.spike_front.specs.Plans.{MayBegin};
 ghost use Rattle.spike_front.specs.Runs as spec;
 ghost use Rattle.spike_front.specs.Runs.{Ran, case_of, state_after};
 
@@ -31,25 +28,25 @@ pub fn run_program<I: Source, C: Sink, F: Folder>(
     alloc: Global,
     image: Image,
     args: &Words,
+    root: Path,
     limit: u64,
     input: &mut I,
     console: &mut C,
     folder: &mut F,
 ) -> RunEnd
-    requires fit { IsFit user_rules image }
-    requires short { main_vars_length args.now ≤ main_vars_limit }
+    requires begins { MayBegin image args.now root }
     requires some { 0 < limit }
     ensures ran { (w : World) → Tells w (I.left input.old) (C.held console.old) (F.tree folder.old)
-        → Ran (case_of w image args.now limit) result.answer result.steps (I.left input.new) (C.held console.new)
+        → Ran (case_of w image args.now root limit) result.answer result.steps (I.left input.new) (C.held console.new)
         (F.tree folder.new) }
     ensures suits { (w : World) → Tells w (I.left input.old) (C.held console.old) (F.tree folder.old)
         → C.steady console.old
         → HasRoomFor (capacity (C.held console.old) (C.room console.old))
-        (length (state_after (result.steps + 1) (case_of w image args.now limit)).world.console)
+        (length (state_after (result.steps + 1) (case_of w image args.now root limit)).world.console)
         → result.answer ≡ Answer.ConsoleFault → ⊥ }
     ensures asked { (w : World) → Tells w (I.left input.old) (C.held console.old) (F.tree folder.old)
         → result.answer ≡ Answer.ConsoleFault
-        → step_puts (state_after result.steps (case_of w image args.now limit)).machine ≢ [] }
+        → step_puts (state_after result.steps (case_of w image args.now root limit)).machine ≢ [] }
     ensures answers { IsRunAnswer result.answer }
     ensures input { input.new ≡ input.old }
     ensures folder { folder.new ≡ folder.old }
@@ -61,7 +58,7 @@ pub fn run_program<I: Source, C: Sink, F: Folder>(
         (C.faults console.new) }
     ensures input_fault { result.answer ≡ Answer.InputFault → ⊥ }
 {
-    let Ok(mut plain) = Plain::start(alloc, image, args, Path::root()) else {
+    let Ok(mut plain) = Plain::start(alloc, image, args, root) else {
         return RunEnd {
             answer: Answer::OutOfMemory,
             steps: 0,

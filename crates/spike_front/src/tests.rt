@@ -1,6 +1,7 @@
 // `front` over objects in memory: what it answers, puts on the console and reports.
 ghost use Rattle.std.specs.Prelude.{◌≡◌, ◌<◌, length};
 
+mod folders;
 mod listings;
 mod programs;
 mod quiet_folder;
@@ -261,7 +262,8 @@ fn runs_stop(rt: HostRuntime) -> Result<(), Fail> {
 fn folders_fail(rt: HostRuntime) -> Result<(), Fail> {
     let alloc = rt.alloc();
     let hi = program(alloc, &HI)?;
-    for call in 0..5 {
+    // The file's kind, its opening, its size, a read and its release, and then the kind of the folder.
+    for call in 0..6 {
         let failing = [call];
         let line = "pkfe: file fault after 0 steps\n";
         let case = Case {
@@ -270,7 +272,12 @@ fn folders_fail(rt: HostRuntime) -> Result<(), Fail> {
         };
         check(&rt, alloc, &case)?;
     }
-    Ok(())
+    let line = "pkfe: exited 0 after 9 steps\n";
+    let case = Case {
+        folder: &[6],
+        ..plain(&hi, Answer::Exited(0), 0, b"Hi\n", line)
+    };
+    check(&rt, alloc, &case)
 }
 
 #[test]
@@ -338,8 +345,6 @@ fn words_are_not_built(rt: HostRuntime) -> Result<(), Fail> {
     let line = "pkfe: not built 1\n";
     refuses(&rt, alloc, &["run", "p"], Answer::NotBuilt(1), 77, line)?;
     refuses(&rt, alloc, &["demo", "3"], Answer::NotBuilt(1), 77, line)?;
-    let folder = ["plain", "--folder", "d", "p"];
-    refuses(&rt, alloc, &folder, Answer::NotBuilt(1), 77, line)?;
     let case = Case {
         words: &[],
         report: &[0],
@@ -545,14 +550,14 @@ fn words_of_listings_fail(rt: HostRuntime) -> Result<(), Fail> {
 }
 
 // A command for `p` over a folder that tells nothing, with a file of these bytes and this size, is answered so after so
-// many reads and one call of each other kind.
+// many reads and questions for a kind, and one call of each other sort.
 fn reads(
     rt: &impl Abort,
     alloc: Global,
     command: &str,
     bytes: &[u8],
     size: u64,
-    reads: u64,
+    (reads, kinds): (u64, u64),
     answer: Answer,
 ) -> Result<(), Fail> {
     let mut words = Words::new(alloc);
@@ -571,7 +576,7 @@ fn reads(
         &mut folder,
     );
     let calls = Calls {
-        kind: 1,
+        kind: kinds,
         open_file: 1,
         size: 1,
         read_at: reads,
@@ -588,24 +593,24 @@ fn files_are_read_in_pieces(rt: HostRuntime) -> Result<(), Fail> {
     let file = program(alloc, &END)?;
     let size = file.len() as u64;
     let (cut, _) = file.split_at(file.len().saturating_sub(1));
-    reads(&rt, alloc, "plain", &file, size, 1, Answer::Exited(0))?;
+    reads(&rt, alloc, "plain", &file, size, (1, 2), Answer::Exited(0))?;
     // A read that ends early: what has come is the file, and nothing is filled in.
     let fault = Answer::BadElf(ElfFault::Segment(0));
-    reads(&rt, alloc, "plain", cut, size, 2, fault)?;
+    reads(&rt, alloc, "plain", cut, size, (2, 1), fault)?;
     reads(
         &rt,
         alloc,
         "plain",
         b"",
         size,
-        1,
+        (1, 1),
         Answer::BadElf(ElfFault::Short),
     )?;
     // A file above the limit is not read.
     let large = Answer::BadElf(ElfFault::TooLarge);
-    reads(&rt, alloc, "plain", &file, 67_108_865, 0, large)?;
+    reads(&rt, alloc, "plain", &file, 67_108_865, (0, 1), large)?;
     let large = Answer::BadAsm(0, 9);
-    reads(&rt, alloc, "asm", &file, 1_048_577, 0, large)?;
+    reads(&rt, alloc, "asm", &file, 1_048_577, (0, 1), large)?;
     let mut long = file;
     let behind: Vec<u8> = vec![in alloc; 0; 1_048_576]?;
     long.extend_from_slice(&behind)?;
@@ -615,7 +620,7 @@ fn files_are_read_in_pieces(rt: HostRuntime) -> Result<(), Fail> {
         "plain",
         &long,
         long.len() as u64,
-        2,
+        (2, 2),
         Answer::Exited(0),
     )?;
     Ok(())

@@ -1,7 +1,7 @@
 // The words of the command line, read from left to right.
-ghost use Rattle.std.specs.Prelude.{◌≡◌, ◌<◌, ◌≤◌, None, IfSome, IfOk, drop, length};
+ghost use Rattle.std.specs.Prelude.{◌≡◌, ◌<◌, ◌≤◌, ◌+◌, ◌-◌, ◌^◌, IfSome, IfOk, drop, length};
 ghost use Rattle.spike_front.specs.Words as spec;
-ghost use Rattle.spike_front.specs.Words.{command_of, IsSound};
+ghost use Rattle.spike_front.specs.Words.{command_of, AreSound, IsSound};
 
 use fe_base::Words;
 use fe_base::limits::{DEFAULT_STEP_LIMIT, GREATEST_STEP_LIMIT};
@@ -10,12 +10,28 @@ use fe_base::limits::{DEFAULT_STEP_LIMIT, GREATEST_STEP_LIMIT};
 #[derive(Clone, Copy)]
 pub enum Command {
     /// Run the program whose file the word at the index `file` names, for at most `limit` steps on the direct machine.
-    /// Its arguments are that word and those behind it.
-    Plain { limit: u64, file: usize },
+    /// Its arguments are that word and those behind it. Its paths stand under the directory that the word at the index
+    /// `folder` names; where there is none, under the folder's root.
+    Plain {
+        limit: u64,
+        folder: Option<usize>,
+        file: usize,
+    },
     /// Put the text of the kernel's items.
     Kernel,
     /// Put the words of the assembly text that the word at the index `file` names.
-    Asm { file: usize },
+    Asm {
+        file: usize,
+    },
+}
+
+/// What the options of `plain` give.
+#[derive(Clone, Copy)]
+pub struct PlainOptions {
+    /// The most steps.
+    pub limit: Option<u64>,
+    /// The index of DIR.
+    pub folder: Option<usize>,
 }
 
 /// How words fail.
@@ -62,7 +78,7 @@ impl UsageKind {
 pub enum WordFault {
     /// The word at this index fails so; a missing word's index is the number of words.
     Usage(UsageKind, u64),
-    /// The word names a command or an option that is not built.
+    /// The word names a command that is not built.
     NotBuilt,
 }
 
@@ -106,33 +122,58 @@ fn limit_value(words: &Words, at: usize) -> Result<u64, WordFault>
     }
 }
 
-// Why the option at the index is refused whatever its value, behind options that gave this limit.
-fn option_fault(word: &str, at: usize, before: Option<u64>) -> Option<WordFault>
-    ensures { result ≡ spec.option_fault before at word.now }
+// The index itself, where a word stands there.
+fn any_value(words: &Words, at: usize) -> Result<usize, WordFault>
+    ensures value { result ≡ spec.any_value at (drop at words.now) }
+    ensures within { IfOk result (λ place. place < length words.now) }
 {
+    if at >= words.len() {
+        return Err(WordFault::Usage(UsageKind::ValueMissing, at as u64));
+    }
+    Ok(at)
+}
+
+// The options of `plain` with the one that this word names, which stands at the index, behind those that came before.
+fn read_option(
+    words: &Words,
+    at: usize,
+    word: &str,
+    before: PlainOptions,
+) -> Result<PlainOptions, WordFault>
+    requires room { at < 2 ^ 64 - 1 }
+    requires sound { AreSound (length words.now) before }
+    ensures value { result ≡ spec.read_option before at word.now (drop (at + 1) words.now) }
+    ensures sound { IfOk result (AreSound (length words.now)) }
+{
+    if word == "--steps" {
+        if before.limit.is_some() {
+            return Err(WordFault::Usage(UsageKind::OptionRepeated, at as u64));
+        }
+        let limit = Some(limit_value(words, at + 1)?);
+        return Ok(PlainOptions { limit, ..before });
+    }
     if word == "--folder" {
-        return Some(WordFault::NotBuilt);
+        if before.folder.is_some() {
+            return Err(WordFault::Usage(UsageKind::OptionRepeated, at as u64));
+        }
+        let folder = Some(any_value(words, at + 1)?);
+        return Ok(PlainOptions { folder, ..before });
     }
-    if word != "--steps" {
-        return Some(WordFault::Usage(UsageKind::UnknownOption, at as u64));
-    }
-    if before.is_some() {
-        return Some(WordFault::Usage(UsageKind::OptionRepeated, at as u64));
-    }
-    None
+    Err(WordFault::Usage(UsageKind::UnknownOption, at as u64))
 }
 
 // `plain` with the word at the index as FILE.
-fn plain_file(words: &Words, at: usize, limit: Option<u64>) -> Result<Command, WordFault>
-    requires { IfSome limit (λ n. 0 < n) }
-    ensures value { result ≡ spec.plain_file limit at (drop at words.now) }
+fn plain_file(words: &Words, at: usize, options: PlainOptions) -> Result<Command, WordFault>
+    requires { AreSound (length words.now) options }
+    ensures value { result ≡ spec.plain_file options at (drop at words.now) }
     ensures sound { IfOk result (IsSound (length words.now)) }
 {
     if at >= words.len() {
         return Err(WordFault::Usage(UsageKind::FileMissing, at as u64));
     }
     Ok(Command::Plain {
-        limit: limit.unwrap_or(DEFAULT_STEP_LIMIT),
+        limit: options.limit.unwrap_or(DEFAULT_STEP_LIMIT),
+        folder: options.folder,
         file: at,
     })
 }
@@ -140,23 +181,23 @@ fn plain_file(words: &Words, at: usize, limit: Option<u64>) -> Result<Command, W
 // `plain` with the words behind it: options with their values, and FILE.
 fn plain_words(words: &Words) -> Result<Command, WordFault>
     requires { 0 < length words.now }
-    ensures value { result ≡ spec.plain_words None 1 (drop 1 words.now) }
+    ensures value { result ≡ spec.plain_words spec.no_options 1 (drop 1 words.now) }
     ensures sound { IfOk result (IsSound (length words.now)) }
 {
-    let mut limit = None;
+    let mut options = PlainOptions {
+        limit: None,
+        folder: None,
+    };
     let mut at = 1;
     'options: while at < words.len() && is_option(words.word(at)) {
         let word = words.word(at);
         if word == "--" {
-            return plain_file(words, at + 1, limit);
+            return plain_file(words, at + 1, options);
         }
-        if let Some(fault) = option_fault(word, at, limit) {
-            return Err(fault);
-        }
-        limit = Some(limit_value(words, at + 1)?);
+        options = read_option(words, at, word, options)?;
         at += 2;
     }
-    plain_file(words, at, limit)
+    plain_file(words, at, options)
 }
 
 // Where the words behind the options begin, of a command that has none.

@@ -13,7 +13,8 @@ pub struct Calls {
     pub release: u64,
 }
 
-/// A folder that has a file at every path. Reads give its bytes to their end, wherever its size says that it ends.
+/// A folder that has a file at every path but its root. Reads give its bytes to their end, wherever its size says that it
+/// ends.
 #[derive(Drop)]
 pub struct QuietFolder<'a> {
     bytes: &'a [u8],
@@ -47,8 +48,11 @@ impl Folder for QuietFolder<'_> {
 
     ghost steady = { λ _. ⊥ };
 
-    fn kind(&mut self, _path: &Path) -> Result<PathKind, FolderStop> {
+    fn kind(&mut self, path: &Path) -> Result<PathKind, FolderStop> {
         self.calls.kind = self.calls.kind.saturating_add(1);
+        if path.text().is_empty() {
+            return Ok(PathKind::Directory);
+        }
         Ok(PathKind::File)
     }
 

@@ -145,22 +145,22 @@ returns-in-Ok-Run-clause-listed g c = λ listing asks.
 
 pub returns-in-Ok-Run-clause-listing : goal.returns-in-Ok-Run-clause-listing
 returns-in-Ok-Run-clause-listing g c = λ listing.
-    absurd (listing_not_run c.read_command-asked.result c.args.words.now c.in-Ok-Run.image c.in-Ok-Run.args c.in-Ok-Run.limit (subst IsListing (sym c.read_command-asked.ensures.value) listing) (rw c.in-Ok-Run.field-0-is at c.in-Ok-Run.ensures.kind))
+    absurd (listing_not_run c.read_command-asked.result c.args.words.now c.in-Ok-Run.image c.in-Ok-Run.args c.in-Ok-Run.root c.in-Ok-Run.limit (subst IsListing (sym c.read_command-asked.ensures.value) listing) (rw c.in-Ok-Run.field-0-is at c.in-Ok-Run.ensures.kind))
 
 pub returns-in-Ok-Run-clause-not_done : goal.returns-in-Ok-Run-clause-not_done
 returns-in-Ok-Run-clause-not_done g c = λ listing.
-    absurd (listing_not_run c.read_command-asked.result c.args.words.now c.in-Ok-Run.image c.in-Ok-Run.args c.in-Ok-Run.limit (subst IsListing (sym c.read_command-asked.ensures.value) listing) (rw c.in-Ok-Run.field-0-is at c.in-Ok-Run.ensures.kind))
+    absurd (listing_not_run c.read_command-asked.result c.args.words.now c.in-Ok-Run.image c.in-Ok-Run.args c.in-Ok-Run.root c.in-Ok-Run.limit (subst IsListing (sym c.read_command-asked.ensures.value) listing) (rw c.in-Ok-Run.field-0-is at c.in-Ok-Run.ensures.kind))
 
 pub returns-in-Ok-Run-clause-answers : goal.returns-in-Ok-Run-clause-answers
 returns-in-Ok-Run-clause-answers g c =
     let answer = c.run_program-end.result.answer in
     let kind = rw c.in-Ok-Run.field-0-is at c.in-Ok-Run.ensures.kind in
-    subst (λ read. MayAnswer read answer) c.read_command-asked.ensures.value (run_may c.read_command-asked.result c.args.words.now c.in-Ok-Run.image c.in-Ok-Run.args c.in-Ok-Run.limit answer kind c.run_program-end.ensures.answers)
+    subst (λ read. MayAnswer read answer) c.read_command-asked.ensures.value (run_may c.read_command-asked.result c.args.words.now c.in-Ok-Run.image c.in-Ok-Run.args c.in-Ok-Run.root c.in-Ok-Run.limit answer kind c.run_program-end.ensures.answers)
 
 pub returns-in-Ok-Run-clause-counted : goal.returns-in-Ok-Run-clause-counted
 returns-in-Ok-Run-clause-counted g c = λ limit has.
     let words = c.args.words.now in
-    let made = run_has_limit c.read_command-asked.result words c.in-Ok-Run.image c.in-Ok-Run.args c.in-Ok-Run.limit (sym c.read_command-asked.ensures.value) (rw c.in-Ok-Run.field-0-is at c.in-Ok-Run.ensures.kind) in
+    let made = run_has_limit c.read_command-asked.result words c.in-Ok-Run.image c.in-Ok-Run.args c.in-Ok-Run.root c.in-Ok-Run.limit (sym c.read_command-asked.ensures.value) (rw c.in-Ok-Run.field-0-is at c.in-Ok-Run.ensures.kind) in
     (c.run_program-end.result.steps, refl, subst (λ (n : ℕ). c.run_program-end.result.steps ≤ n) (one_limit words _ limit made has) c.run_program-end.ensures.within)
 
 pub returns-in-Ok-Run-clause-ran : goal.returns-in-Ok-Run-clause-ran
@@ -169,7 +169,7 @@ returns-in-Ok-Run-clause-ran g c = λ d asks.
     let read : Tells d.world (g.I.Source.left c.args.input.now) (g.C.Sink.held c.args.console.now) (g.F.Folder.tree c.make_plan.new.folder) =
     record { input_told = asks.told.input_told; console_told = asks.told.console_told; tree_told = plan.1 } in
     let made = rw c.in-Ok-Run.field-0-is at plan.0 in
-    let same = case_same d c.in-Ok-Run.image c.in-Ok-Run.args c.in-Ok-Run.limit (sym made ∙ asks.planned) in
+    let same = case_same d c.in-Ok-Run.image c.in-Ok-Run.args c.in-Ok-Run.root c.in-Ok-Run.limit (sym made ∙ asks.planned) in
     let steps = c.run_program-end.result.steps in
     let room = λ (e : RunCase). HasRoomFor (capacity (g.C.Sink.held c.args.console.now) (g.C.Sink.room c.args.console.now)) (length (state_after (steps + 1) e).world.console) in (
       steps,
@@ -182,7 +182,7 @@ returns-in-Ok-Run-clause-ran g c = λ d asks.
 pub returns-in-Ok-Run-clause-spent : goal.returns-in-Ok-Run-clause-spent
 returns-in-Ok-Run-clause-spent g c = λ n h.
     let both = c.run_program-end.ensures.spent n h in
-    let limit = run_has_limit c.read_command-asked.result c.args.words.now c.in-Ok-Run.image c.in-Ok-Run.args c.in-Ok-Run.limit (sym c.read_command-asked.ensures.value) (rw c.in-Ok-Run.field-0-is at c.in-Ok-Run.ensures.kind) in
+    let limit = run_has_limit c.read_command-asked.result c.args.words.now c.in-Ok-Run.image c.in-Ok-Run.args c.in-Ok-Run.root c.in-Ok-Run.limit (sym c.read_command-asked.ensures.value) (rw c.in-Ok-Run.field-0-is at c.in-Ok-Run.ensures.kind) in
     (subst (HasLimit c.args.words.now) (sym both.0) limit, ap Some both.1)
 
 pub returns-in-Ok-Run-clause-files : goal.returns-in-Ok-Run-clause-files
@@ -214,9 +214,9 @@ returns-in-Err-OutOfMemory-clause-listing g c = λ listing.
 pub returns-in-Err-FileFault-clause-ran : goal.returns-in-Err-FileFault-clause-ran
 returns-in-Err-FileFault-clause-ran g c = λ d asks.
     let planned = ap (λ r. planned_command r c.args.words.now d.world.tree) c.read_command-asked.ensures.value ∙ asks.planned in
-    let some = some_steps c.read_command-asked.result _ d.limit c.args.words.now d.args d.world.tree d.image (sound_as c.read_command-asked.result _ c.read_command-asked.ensures.sound) planned in (
+    let some = some_steps c.read_command-asked.result _ d.limit c.args.words.now d.args d.world.tree d.image d.root (sound_as c.read_command-asked.result _ c.read_command-asked.ensures.sound) planned in (
       0,
-      c.first_count-in-Err-FileFault.ensures ∙ run_counts c.read_command-asked.result c.args.words.now d.world.tree d.image d.args d.limit planned,
+      c.first_count-in-Err-FileFault.ensures ∙ run_counts c.read_command-asked.result c.args.words.now d.world.tree d.image d.args d.root d.limit planned,
       Ran-stopped d FileFault some refl (record { input_told = asks.told.input_told; console_told = asks.told.console_told; files_told = c.make_plan.ensures.files d.world.tree asks.told.tree_told }),
       λ h. cc,
       λ steady there h. cc,
@@ -225,9 +225,9 @@ returns-in-Err-FileFault-clause-ran g c = λ d asks.
 pub returns-in-Err-OutOfMemory-clause-ran : goal.returns-in-Err-OutOfMemory-clause-ran
 returns-in-Err-OutOfMemory-clause-ran g c = λ d asks.
     let planned = ap (λ r. planned_command r c.args.words.now d.world.tree) c.read_command-asked.ensures.value ∙ asks.planned in
-    let some = some_steps c.read_command-asked.result _ d.limit c.args.words.now d.args d.world.tree d.image (sound_as c.read_command-asked.result _ c.read_command-asked.ensures.sound) planned in (
+    let some = some_steps c.read_command-asked.result _ d.limit c.args.words.now d.args d.world.tree d.image d.root (sound_as c.read_command-asked.result _ c.read_command-asked.ensures.sound) planned in (
       0,
-      c.first_count-in-Err-OutOfMemory.ensures ∙ run_counts c.read_command-asked.result c.args.words.now d.world.tree d.image d.args d.limit planned,
+      c.first_count-in-Err-OutOfMemory.ensures ∙ run_counts c.read_command-asked.result c.args.words.now d.world.tree d.image d.args d.root d.limit planned,
       Ran-stopped d OutOfMemory some refl (record { input_told = asks.told.input_told; console_told = asks.told.console_told; files_told = c.make_plan.ensures.files d.world.tree asks.told.tree_told }),
       λ h. cc,
       λ steady there h. cc,

@@ -105,7 +105,7 @@ returns-clause-ran g c = λ d asks.
       reported_at c.put_report.result ending.steps (Some run.0) _ _ run.1 c.put_report.ensures.reported,
       record {
         console_asked = run.3;
-        early = λ h. steps_early ending.steps run.0 _ run.1 (known.early h).2 (run_counts (command_of c.args.words.now) c.args.words.now d.world.tree d.image d.args d.limit asks.planned);
+        early = λ h. steps_early ending.steps run.0 _ run.1 (known.early h).2 (run_counts (command_of c.args.words.now) c.args.words.now d.world.tree d.image d.args d.root d.limit asks.planned);
         no_input_fault = known.input_fault;
       },
       known.console_cause,

@@ -10,7 +10,7 @@ use Rattle.spike_front.proofs.Endings.{IsEnd, Ran-end, Ran-stopped, Leaves-told,
 use Rattle.spike_front.proofs.run.run_program.Goals as goal
 
 pub returns-in_default-clause-ran : goal.returns-in_default-clause-ran
-returns-in_default-clause-ran g c = λ w told. Ran-stopped (case_of w c.args.image c.args.args.now c.args.limit) OutOfMemory c.requires.some refl (Leaves-told w told)
+returns-in_default-clause-ran g c = λ w told. Ran-stopped (case_of w c.args.image c.args.args.now c.args.root c.args.limit) OutOfMemory c.requires.some refl (Leaves-told w told)
 
 pub returns-in_default-clause-answers : goal.returns-in_default-clause-answers
 returns-in_default-clause-answers g c = inr (inl refl)
@@ -32,7 +32,7 @@ returns-clause-ran g c = λ w told.
       not_built = c.run-end.ensures.not_built;
       within = omega (arith, c.run-end.ensures.within, none);
     } in
-    Ran-end (case_of w c.args.image c.args.args.now c.args.limit) (direct_of first w) last c.run-end.result c.answer_of.result _ c.steps.result start c.answer_of.ensures all c.steps.ensures
+    Ran-end (case_of w c.args.image c.args.args.now c.args.root c.args.limit) (direct_of first w) last c.run-end.result c.answer_of.result _ c.steps.result start c.answer_of.ensures all c.steps.ensures
     (c.run-end.ensures.run w told) (c.run-end.ensures.earlier w told) (c.run-end.ensures.built w told) ends
 
 pub returns-clause-suits : goal.returns-clause-suits
