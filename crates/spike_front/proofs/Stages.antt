@@ -1,13 +1,13 @@
 -- Which answers are of which class, by where the work stands.
 use Rattle.std.proofs.Common.{◌≡◌, ◌++◌, ◌⊎◌, inl, inr, ℕ, List, Option, Some, refl, ap, sym, subst, ◌∙◌}
-use Rattle.plain_machine.specs.declared.plain.PlainFault.TheVariants.{FileFault as FileStop, InputFault as InputStop, ConsoleFault as ConsoleStop, OutOfMemory as MemoryStop, NotBuilt as NotBuiltStop}
+use Rattle.plain_machine.specs.declared.plain.PlainFault.TheVariants.{FileFault as FileStop, InputFault as InputStop, ConsoleFault as ConsoleStop, OutOfMemory as MemoryStop}
 use Rattle.plain_machine.specs.declared.plain.PlainEnd.{PlainEnd}
 use Rattle.plain_machine.specs.declared.plain.PlainEnd.TheVariants.{Exited as EndExited, StepsSpent as EndSpent, Fault as EndFault}
 use Rattle.spike_front.specs.declared.answer.Answer.{Answer}
 use Rattle.spike_front.specs.declared.answer.Answer.TheVariants.{ReportFault}
 use Rattle.spike_front.specs.declared.words.WordFault.{WordFault}
 use Rattle.spike_front.specs.declared.words.WordFault.TheVariants.{Usage, NotBuilt}
-use Rattle.spike_front.specs.Answers.{Stage, stage_of, IsEarly, IsRefusal, IsRunAnswer, IsSaid, IsStop, IsWordsRefusal, Yields}
+use Rattle.spike_front.specs.Answers.{Stage, stage_of, IsRefusal, IsRunAnswer, IsSaid, IsStop, IsWordsRefusal, Yields}
 use Rattle.spike_front.specs.Causes.{RoseFor}
 use Rattle.spike_front.specs.Plans.{Planned, answer_of_fault, refuse}
 use Rattle.spike_front.specs.Report.{line_of, Reported}
@@ -20,7 +20,6 @@ run_answer limit (EndFault FileStop) = inr (inl refl)
 run_answer limit (EndFault InputStop) = inr (inr refl)
 run_answer limit (EndFault ConsoleStop) = inr (inr refl)
 run_answer limit (EndFault MemoryStop) = inr (inl refl)
-run_answer limit (EndFault NotBuiltStop) = inl refl
 
 -- words that are no command are refused as words
 pub words_refusal_of : (fault : WordFault) → IsWordsRefusal (answer_of_fault fault)
@@ -49,35 +48,16 @@ run_not_refusal a (inr (inr failed)) (inl refused) = cc
 run_not_refusal a (inr (inr failed)) (inr (inl refused)) = cc
 run_not_refusal a (inr (inr failed)) (inr (inr refused)) = cc
 
--- an answer of a run that comes before a first step stops the work
-pub early_run_stops : (a : Answer) → IsRunAnswer a → IsEarly a → IsStop a
-early_run_stops a ran (inl refused) = absurd (run_not_refusal a ran refused)
-early_run_stops a ran (inr stopped) = stopped
-
--- what a run says as it stops the work
-pub stop_back : (limit : ℕ) (end : PlainEnd) → IsStop (answer_of limit end) → (end ≡ EndFault FileStop) ⊎ (end ≡ EndFault MemoryStop)
-stop_back limit (EndExited status) stop = cc
-stop_back limit EndSpent stop = cc
-stop_back limit (EndFault FileStop) stop = inl refl
-stop_back limit (EndFault InputStop) stop = cc
-stop_back limit (EndFault ConsoleStop) stop = cc
-stop_back limit (EndFault MemoryStop) stop = inr refl
-stop_back limit (EndFault NotBuiltStop) stop = cc
-
 -- no answer but the report's fault takes the place of another
 report_not_refusal : (a : Answer) → a ≡ ReportFault → IsRefusal a → ⊥
 report_not_refusal a is (inl refused) = other_stage a ReportFault refused (λ e. cc) is
 report_not_refusal a is (inr (inl refused)) = other_stage a ReportFault refused (λ e. cc) is
 report_not_refusal a is (inr (inr refused)) = other_stage a ReportFault refused (λ e. cc) is
 
-report_not_early : (a : Answer) → a ≡ ReportFault → IsEarly a → ⊥
-report_not_early a is (inl refused) = report_not_refusal a is refused
-report_not_early a is (inr stopped) = other_stage a ReportFault stopped (λ e. cc) is
-
--- what is said and comes before a first step came so before the report
-pub early_said : {P : Type 0} (e result : Answer) → IsSaid e result → IsEarly result → (IsEarly e → P) → P
-early_said e result (inl same) early then = then (subst IsEarly same early)
-early_said e result (inr fault) early then = absurd (report_not_early result fault early)
+-- a refusal that is said was one before the report
+pub early_said : {P : Type 0} (e result : Answer) → IsSaid e result → IsRefusal result → (IsRefusal e → P) → P
+early_said e result (inl same) early then = then (subst IsRefusal same early)
+early_said e result (inr fault) early then = absurd (report_not_refusal result fault early)
 
 -- a refusal that is said is the plan's
 pub refusal_said : (plan : Planned) (e result : Answer) → IsSaid e result → IsRefusal result → (IsRefusal e → plan ≡ refuse e) → plan ≡ refuse result

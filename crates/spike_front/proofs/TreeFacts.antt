@@ -1,13 +1,14 @@
 -- What the answers of a folder's calls tell of its files, one after another.
-use Rattle.std.proofs.Common.{◌≡◌, ◌<◌, ℕ, List, Option, Some, Ok, Err, IsSome, length, refl, ap, sym, ◌∙◌, subst, arith}
+use Rattle.std.proofs.Common.{◌≡◌, ◌<◌, ◌⊎◌, inl, inr, ℕ, List, Option, Some, Ok, Err, IsSome, length, refl, ap, sym, ◌∙◌, subst, arith}
 use Rattle.folder_tree.specs.Paths.{Parts}
 use Rattle.folder_tree.specs.Tree.{Tree, IsWellFormed, number_at, opens_of}
 use Rattle.folder_tree.specs.TreeOps.{After, opened, released, release_row}
 use Rattle.folder_tree.specs.Answers.{AnsweredBy, Suits}
-use Rattle.folder_tree.specs.Laws.{number_at-named, opens_of-opened, release_told, released-opened, files_of-released}
+use Rattle.folder_tree.specs.Laws.{named-bytes, number_at-named, opened-IsWellFormed, opens_of-opened, release_told, released-opened, files_of-released}
+use Rattle.plain_machine.specs.Stands.{HasFiles}
 use Rattle.folder_tree.specs.declared.folder.FolderStop.{FolderStop}
 use Rattle.folder_tree.specs.declared.folder.FolderStop.TheVariants.{Failed, NoMemory}
-use Rattle.spike_front.specs.FoundFiles.{HasFiles, IsFound, IsReadOf}
+use Rattle.spike_front.specs.FoundFiles.{IsFound, IsReadOf, StaysOrOpens, StaysWellFormed}
 use Rattle.spike_front.specs.declared.file.FoundFile.{FoundFile}
 use Rattle.spike_front.specs.declared.file.FoundFile.TheVariants.{Missing, TooLarge, Bytes}
 
@@ -44,3 +45,9 @@ pub found_of : (limit : ℕ) (file : Option (List ℕ)) (bytes : List ℕ) (foun
 found_of limit file bytes Missing is read = absurd read
 found_of limit file bytes TooLarge is read = (bytes, is, read)
 found_of limit file bytes (Bytes items) is read = (is ∙ ap Some (sym read.1), omega (arith, read.0, ap length read.1))
+
+-- with one of its files open once more, a tree is well formed
+pub formed_still : (t : Tree) (told : Option Tree) → IsWellFormed t → StaysOrOpens t told → StaysWellFormed told
+formed_still t told formed (inl same) = (t, same, formed)
+formed_still t told formed (inr (path, number, at, is)) =
+    (opened t number, is, opened-IsWellFormed t number formed (named-bytes t number formed (number_at-named t path number at)))

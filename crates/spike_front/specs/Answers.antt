@@ -1,13 +1,13 @@
 -- Where the work stands as an answer comes, and the classes of answers that the contracts speak of.
-use Rattle.std.specs.Prelude.{◌≡◌, ◌⊎◌, ◌==◌, if◌then◌else◌}
+use Rattle.std.specs.Prelude.{◌≡◌, ◌⊎◌, Bool, true, false}
 use Rattle.spike_front.specs.declared.answer.Answer.{Answer}
 use Rattle.spike_front.specs.declared.answer.Answer.TheVariants.{Done, Exited, Usage, NoProgram, BadElf, NoFolder}
 use Rattle.spike_front.specs.declared.answer.Answer.TheVariants.{ArgsTooLong, BadAsm, StepsSpent, FileFault, InputFault}
 use Rattle.spike_front.specs.declared.answer.Answer.TheVariants.{ConsoleFault, ReportFault, OutOfMemory, NotBuilt}
 
 -- where the work stands: the words are refused, or the file, or the folder and the arguments that its program would
--- have; a listing was put; a run has gone to its end, to its limit or to a step that is not built; the folder failed or
--- there was no memory; the input or the console failed; the report's line could not be put
+-- have; a listing was put; a run has gone to its end or to its limit; the folder failed or there was no memory; the
+-- input or the console failed; the report's line could not be put
 pub data Stage : Type 0 where
   words_refused : Stage
   file_refused : Stage
@@ -34,7 +34,7 @@ stage_of InputFault = stream_failed
 stage_of ConsoleFault = stream_failed
 stage_of ReportFault = report_failed
 stage_of OutOfMemory = work_stopped
-stage_of (NotBuilt kind) = if kind == 3 then run_made else words_refused
+stage_of (NotBuilt kind) = words_refused
 
 -- the answers to words that are no command
 abbrev pub IsWordsRefusal : Answer → Type 0
@@ -48,13 +48,24 @@ IsProgramRefusal answer = (stage_of answer ≡ file_refused) ⊎ (stage_of answe
 abbrev pub IsRefusal : Answer → Type 0
 IsRefusal answer = (stage_of answer ≡ words_refused) ⊎ IsProgramRefusal answer
 
--- what can end the work before a run: the folder failed, or there was no memory
+-- the folder failed, or there was no memory
 abbrev pub IsStop : Answer → Type 0
 IsStop answer = stage_of answer ≡ work_stopped
 
--- the answers that come before a first step
-abbrev pub IsEarly : Answer → Type 0
-IsEarly answer = IsRefusal answer ⊎ IsStop answer
+-- the work was stopped so
+abbrev pub is_stopped : Stage → Bool
+is_stopped words_refused = false
+is_stopped file_refused = false
+is_stopped setting_refused = false
+is_stopped listing_put = false
+is_stopped run_made = false
+is_stopped work_stopped = true
+is_stopped stream_failed = false
+is_stopped report_failed = false
+
+-- the same of an answer, as a test
+abbrev pub is_stop : Answer → Bool
+is_stop answer = is_stopped (stage_of answer)
 
 -- the answers that a run can have
 abbrev pub IsRunAnswer : Answer → Type 0

@@ -2,7 +2,7 @@
 use Rattle.std.specs.Prelude.{◌≡◌, ◌<◌, ◌≤◌, ◌⊎◌, ℕ, ⊤, if◌then◌else◌, List, length, Option, Some, None, Result, Ok, Err}
 use Rattle.fe_base.specs.declared.error_numbers.ErrNo.{ErrNo}
 use Rattle.folder_tree.specs.Paths.{Parts, path_of}
-use Rattle.folder_tree.specs.Tree.{Tree, file_of, files_of, kind_of, number_at}
+use Rattle.folder_tree.specs.Tree.{Tree, IsWellFormed, file_of, kind_of, number_at}
 use Rattle.folder_tree.specs.TreeOps.{is_directory, opened}
 use Rattle.folder_tree.specs.declared.folder.FolderStop.{FolderStop}
 use Rattle.folder_tree.specs.declared.folder.FolderStop.TheVariants.{Failed, NoMemory}
@@ -52,11 +52,11 @@ abbrev pub stop_of : FolderStop → Stop
 stop_of Failed = FileFault
 stop_of NoMemory = OutOfMemory
 
--- a tree with these files is told; how often each is open is no part of them
-abbrev pub HasFiles : Tree → Option Tree → Type 0
-HasFiles t told = (now : Tree) × (told ≡ Some now) × (files_of now ≡ files_of t)
-
 -- a tree is told as it was, or with one of its files open once more
 abbrev pub StaysOrOpens : Tree → Option Tree → Type 0
 StaysOrOpens t told = (told ≡ Some t) ⊎ ((path : Parts) × (number : ℕ) × (number_at t path ≡ Some number)
     × (told ≡ Some (opened t number)))
+
+-- a well-formed tree is told
+abbrev pub StaysWellFormed : Option Tree → Type 0
+StaysWellFormed told = (now : Tree) × (told ≡ Some now) × IsWellFormed now

@@ -1,5 +1,5 @@
 -- How an answer is told: by the status of the process, and by the last line of the report.
-use Rattle.std.specs.Prelude.{◌≡◌, ℕ, ◌==◌, if◌then◌else◌, List, [], ◌++◌, codes, Option, Some, None}
+use Rattle.std.specs.Prelude.{◌≡◌, ℕ, List, [], ◌++◌, codes, Option, Some, None}
 use Rattle.std.specs.Fmt.{decimal}
 use Rattle.elf_loader.specs.Faults.{number_of}
 use Rattle.elf_loader.specs.declared.fault.ElfFault.{ElfFault}
@@ -72,8 +72,7 @@ line_of InputFault steps = counted (codes "pkfe: input fault") steps
 line_of ConsoleFault steps = counted (codes "pkfe: console fault") steps
 line_of ReportFault steps = []
 line_of OutOfMemory steps = counted (codes "pkfe: out of memory") steps
-line_of (NotBuilt kind) steps = if kind == 3 then counted (codes "pkfe: not built 3") steps
-    else codes "pkfe: not built " ++ (decimal kind ++ codes "\n")
+line_of (NotBuilt kind) steps = codes "pkfe: not built " ++ (decimal kind ++ codes "\n")
 
 -- the report, where it is told, has grown by the last line of this answer
 abbrev pub Reported : Answer → Option ℕ → Option (List ℕ) → Option (List ℕ) → Type 0

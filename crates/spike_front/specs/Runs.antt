@@ -1,77 +1,104 @@
--- What a run leaves and answers, by the direct run.
-use Rattle.std.specs.Prelude.{◌≡◌, ◌≢◌, [], ◌≤◌, ◌<◌, ◌↔◌, ◌⊎◌, ℕ, true, false, List, Option, Some, None}
+-- What a run of `plain` leaves and answers, by the direct run.
+use Rattle.std.specs.Prelude.{◌≡◌, ◌≢◌, ◌≤◌, ◌<◌, ◌+◌, ◌↔◌, ◌==◌, ◌&&◌, ◌||◌, ℕ, Bool, true, List, [], length, Option, Some}
+use Rattle.std.specs.Prelude.{None}
 use Rattle.elf_loader.specs.declared.image.Image.{Image}
+use Rattle.fe_base.specs.Outside.{capacity}
+use Rattle.fe_base.specs.declared.outside.Sink as sink
+use Rattle.fe_base.specs.declared.outside.Source as source
 use Rattle.folder_tree.specs.Paths.{Parts}
 use Rattle.folder_tree.specs.Tree.{Tree, IsWellFormed}
-use Rattle.plain_machine.specs.Direct.{World, Tells, DirectState, direct_after, direct_start, status_of, is_built}
-use Rattle.plain_machine.specs.Direct.{step_puts}
+use Rattle.folder_tree.specs.declared.folder.Folder as folder
+use Rattle.host_text.specs.World.{Contents}
+use Rattle.plain_machine.specs.Asks.{Asked, asks_folder, asks_input, puts_of, step_asks, step_cuts}
+use Rattle.plain_machine.specs.Direct.{Machine, status_of}
+use Rattle.plain_machine.specs.Outsides.{Outside}
+use Rattle.plain_machine.specs.Stands.{HasRoomFor, NeverAsks, NeverPuts, RanOf, Spares, Tells}
+use Rattle.plain_machine.specs.Starts.{Configuration, direct_start, setting_of, state_after}
 use Rattle.plain_machine.specs.declared.plain.PlainFault.{PlainFault}
 use Rattle.plain_machine.specs.declared.plain.PlainFault.TheVariants.{FileFault as FileStop, InputFault as InputStop}
 use Rattle.plain_machine.specs.declared.plain.PlainFault.TheVariants.{ConsoleFault as ConsoleStop}
 use Rattle.plain_machine.specs.declared.plain.PlainFault.TheVariants.{OutOfMemory as MemoryStop}
-use Rattle.plain_machine.specs.declared.plain.PlainFault.TheVariants.{NotBuilt as NotBuiltStop}
 use Rattle.plain_machine.specs.declared.plain.PlainEnd.{PlainEnd}
 use Rattle.plain_machine.specs.declared.plain.PlainEnd.TheVariants.{Exited as EndExited, StepsSpent as EndSpent}
 use Rattle.plain_machine.specs.declared.plain.PlainEnd.TheVariants.{Fault as EndFault}
 use Rattle.spike_front.specs.declared.answer.Answer.{Answer}
 use Rattle.spike_front.specs.declared.answer.Answer.TheVariants.{Exited, StepsSpent, FileFault, InputFault}
-use Rattle.spike_front.specs.declared.answer.Answer.TheVariants.{ConsoleFault, OutOfMemory, NotBuilt}
-use Rattle.spike_front.specs.Answers.{IsEarly, IsRunAnswer, Yields}
+use Rattle.spike_front.specs.declared.answer.Answer.TheVariants.{ConsoleFault, OutOfMemory}
+use Rattle.spike_front.specs.Answers.{IsRunAnswer, is_stop}
+use Rattle.spike_front.specs.Causes.{RoseFor}
 use Rattle.spike_front.specs.Plans.{plan_of, run}
-use Rattle.spike_front.specs.FoundFiles.{HasFiles}
 
--- a run: the world that it begins in, the image and the arguments of its program, the path of the folder under which
--- its own paths stand, and the most steps that it may make
+-- a run: the configuration that it is of, and the most steps that it may make
 pub record RunCase : Type 0 where
-  pub world : World
-  pub image : Image
-  pub args : List (List ℕ)
-  pub root : Parts
+  pub start : Configuration
   pub limit : ℕ
 
--- the run of this image in this world, with these arguments, under this path and with this limit
-abbrev pub case_of : World → Image → List (List ℕ) → Parts → ℕ → RunCase
-case_of w image args root limit = record { world = w; image = image; args = args; root = root; limit = limit }
+-- the run of this image with these arguments, under this path, from these contents and with this limit
+abbrev pub case_of : Image → List (List ℕ) → Parts → Contents → ℕ → RunCase
+case_of image args root contents limit =
+    record { start = record { image = image; args = args; root = root; contents = contents }; limit = limit }
 
--- the words ask for this run, and the objects tell its world, whose tree is well formed
+-- the words ask for this run, and the objects tell its contents, whose tree is well formed
 pub record Asks (words : List (List ℕ)) (c : RunCase) (input console : Option (List ℕ)) (tree : Option Tree)
     : Type 0 where
-  pub formed : IsWellFormed c.world.tree
-  pub told : Tells c.world input console tree
-  pub planned : plan_of words c.world.tree ≡ run c.image c.args c.root c.limit
+  pub formed : IsWellFormed c.start.contents.tree
+  pub told : Tells c.start.contents input console tree
+  pub planned : plan_of words c.start.contents.tree ≡ run c.start.image c.start.args c.start.root c.limit
 
--- where the direct run of a case stands after so many steps
-abbrev pub state_after : ℕ → RunCase → DirectState
-state_after steps c = direct_after steps (direct_start c.image c.args c.world)
+-- what the step behind so many of a configuration's direct run asks of the outside
+abbrev pub asked_after : ℕ → Configuration → Asked
+asked_after steps start = step_asks (state_after steps start).world.numbers (state_after steps start).machine
 
--- the objects tell what this world has: its input, its console and its files
-pub record Leaves (w : World) (input console : Option (List ℕ)) (tree : Option Tree) : Type 0 where
-  pub input_told : input ≡ Some w.input
-  pub console_told : console ≡ Some w.console
-  pub files_told : HasFiles w.tree tree
+-- a file may be open once more: the folder failed, or there was no memory, before the first step or at an openat that
+-- takes the file's bytes away
+abbrev pub may_open : Answer → ℕ → Machine → Bool
+may_open answer steps machine = is_stop answer && (steps == 0 || step_cuts machine)
 
--- a run has this answer after so many steps: it leaves what the direct run has there, and the answer says how that
--- stands
-pub record Ran (c : RunCase) (answer : Answer) (steps : ℕ) (input console : Option (List ℕ)) (tree : Option Tree)
+-- A run of `plain` has this answer after so many steps: it leaves what every run leaves, and of input, console and tree
+-- all that the direct run has there, but for one open more; and it comes to its limit where the answer says so.
+pub record PlainRun (c : RunCase) (answer : Answer) (steps : ℕ) (input console : Option (List ℕ)) (tree : Option Tree)
     : Type 0 where
-  pub contents : Leaves (state_after steps c).world input console tree
+  pub ran : RanOf c.start steps (λ status. answer ≡ Exited status) input console tree
+  pub spared : Spares (may_open answer steps (state_after steps c.start).machine)
+      (state_after steps c.start).world.contents input console tree
   pub within : steps ≤ c.limit
-  pub earlier : (n : ℕ) → n < steps → status_of (state_after n c).machine ≡ None
-  pub built : (n : ℕ) → n < steps → is_built (state_after n c).machine ≡ true
-  pub exited : (status : ℕ) → (answer ≡ Exited status) ↔ (status_of (state_after steps c).machine ≡ Some status)
   pub spent : (n : ℕ) → (answer ≡ StepsSpent n) ↔ ((n ≡ c.limit) × (steps ≡ c.limit)
-      × (status_of (state_after steps c).machine ≡ None))
-  pub not_built : answer ≡ NotBuilt 3 → (steps < c.limit) × (is_built (state_after steps c).machine ≡ false)
-  pub not_built_there : steps < c.limit → is_built (state_after steps c).machine ≡ false → (answer ≡ NotBuilt 3)
-      ⊎ Yields answer
+      × (status_of (state_after steps c.start).machine ≡ None))
   pub answers : IsRunAnswer answer
 
--- when an answer of a run may come: a fault of the console where the next step puts bytes, a fault of the folder and
--- want of memory before the first step, a fault of the input never
+-- when an answer of a run may come: a fault of an object, and want of memory behind the first step, where the next step
+-- asks that object, or the folder
 pub record IsTimely (c : RunCase) (answer : Answer) (steps : ℕ) : Type 0 where
-  pub console_asked : answer ≡ ConsoleFault → step_puts (state_after steps c).machine ≢ []
-  pub early : IsEarly answer → steps ≡ 0
-  pub no_input_fault : answer ≡ InputFault → ⊥
+  pub input_asked : answer ≡ InputFault → asks_input (asked_after steps c.start) ≡ true
+  pub console_asked : answer ≡ ConsoleFault → puts_of (asked_after steps c.start) ≢ []
+  pub file_asked : answer ≡ FileFault → 0 < steps → asks_folder (asked_after steps c.start) ≡ true
+  pub memory_asked : answer ≡ OutOfMemory → 0 < steps → asks_folder (asked_after steps c.start) ≡ true
+
+module _ {F I C : Type 0} (f : folder.Ghosts F) (i : source.Ghosts I) (c : sink.Ghosts C) where
+  -- no count falls, and each fault, and want of memory behind the first step, comes only where its own count rose
+  pub record HasRunCauses (old new : Outside F I C) (answer : Answer) (steps : ℕ) : Type 0 where
+    pub file : RoseFor (answer ≡ FileFault) (f.faults old.folder) (f.faults new.folder)
+    pub memory : RoseFor ((answer ≡ OutOfMemory) × (0 < steps)) (f.short old.folder) (f.short new.folder)
+    pub input : RoseFor (answer ≡ InputFault) (i.faults old.input) (i.faults new.input)
+    pub console : RoseFor (answer ≡ ConsoleFault) (c.faults old.console) (c.faults new.console)
+
+  -- a steady console fails no run for which its room suffices: the room for what the direct run has put after one step
+  -- more than were made
+  abbrev pub ConsoleSuits : RunCase → C → ℕ → Answer → Type 0
+  ConsoleSuits d console steps answer =
+      c.steady console → HasRoomFor (capacity (c.held console) (c.room console))
+      (length (state_after (steps + 1) d.start).world.contents.console) → answer ≡ ConsoleFault → ⊥
+
+  -- steady objects fail no run
+  pub record IsCalm (d : RunCase) (old : Outside F I C) (answer : Answer) (steps : ℕ) : Type 0 where
+    pub folder : f.steady old.folder → answer ≡ FileFault → ⊥
+    pub input : i.steady old.input → answer ≡ InputFault → ⊥
+    pub console : ConsoleSuits d old.console steps answer
+
+  -- the input and the console are as they were where none of the steps asks them, the step that was not made among them
+  pub record LeavesUnasked (d : RunCase) (old new : Outside F I C) (steps : ℕ) : Type 0 where
+    pub input : NeverAsks asks_input (setting_of d.start) (direct_start d.start) steps → new.input ≡ old.input
+    pub console : NeverPuts (setting_of d.start) (direct_start d.start) steps → new.console ≡ old.console
 
 -- how what stopped a run is answered
 abbrev pub answer_of_stop : PlainFault → Answer
@@ -79,7 +106,6 @@ answer_of_stop FileStop = FileFault
 answer_of_stop InputStop = InputFault
 answer_of_stop ConsoleStop = ConsoleFault
 answer_of_stop MemoryStop = OutOfMemory
-answer_of_stop NotBuiltStop = NotBuilt 3
 
 -- how the end of a run to this limit is answered
 abbrev pub answer_of : ℕ → PlainEnd → Answer

@@ -35,7 +35,7 @@ pub enum Answer {
     ReportFault,
     /// There was no memory.
     OutOfMemory,
-    /// 1: words that are not built; 3: a step that is not built.
+    /// 1: the words name a command that is not built.
     NotBuilt(u8),
 }
 

@@ -15,6 +15,7 @@ pub fn find_directory<F: Folder>(folder: &mut F, word: &str) -> Result<Option<Pa
     ensures told { IfOk result (λ found. (t : Tree) → F.tree folder.old ≡ Some t → found ≡ directory_named word.now t) }
     ensures tree { (t : Tree) → F.tree folder.old ≡ Some t → F.tree folder.new ≡ Some t }
     ensures cause { RoseFor (IsErrOf result Stop.FileFault) (F.faults folder.old) (F.faults folder.new) }
+    ensures short { F.short folder.old ≤ F.short folder.new }
     ensures steady { (t : Tree) → F.tree folder.old ≡ Some t → F.steady folder.old
         → (IsErrOf result Stop.FileFault → ⊥) × F.steady folder.new }
 {

@@ -1,8 +1,9 @@
 // The file that a word names: found and read, unless it is too large.
 ghost use Rattle.std.specs.Prelude.{◌≡◌, ◌≤◌, ◌<◌, IfOk, IsErrOf, Some, length, take, nat_lt, true};
 ghost use Rattle.folder_tree.specs.Tree.{Tree, IsWellFormed, bytes_of, file_of, opens_of};
+ghost use Rattle.plain_machine.specs.Stands.{HasFiles};
 ghost use Rattle.spike_front.specs.Causes.{RoseFor};
-ghost use Rattle.spike_front.specs.FoundFiles.{IsBounded, IsFound, IsReadOf, file_named, HasFiles, StaysOrOpens};
+ghost use Rattle.spike_front.specs.FoundFiles.{IsBounded, IsFound, IsReadOf, file_named, StaysOrOpens};
 
 use fe_base::limits::TRANSFER_LIMIT;
 use folder_tree::{Folder, FolderStop, Path, PathKind, read_path};
@@ -70,6 +71,7 @@ fn read_more<F: Folder>(
         × (take now bytes.new ≡ take now (bytes_of t number))) }
     ensures tree { (t : Tree) → F.tree folder.old ≡ Some t → F.tree folder.new ≡ Some t }
     ensures cause { RoseFor (IsErrOf result Stop.FileFault) (F.faults folder.old) (F.faults folder.new) }
+    ensures short { F.short folder.old ≤ F.short folder.new }
     ensures steady { (t : Tree) → F.tree folder.old ≡ Some t → F.steady folder.old → nat_lt 0 (opens_of t number) ≡ true
         → (IsErrOf result Stop.FileFault → ⊥) × F.steady folder.new }
 {
@@ -90,6 +92,7 @@ fn read_open<F: Folder>(
         → bytes.items ≡ bytes_of t number) }
     ensures tree { (t : Tree) → F.tree folder.old ≡ Some t → F.tree folder.new ≡ Some t }
     ensures cause { RoseFor (IsErrOf result Stop.FileFault) (F.faults folder.old) (F.faults folder.new) }
+    ensures short { F.short folder.old ≤ F.short folder.new }
     ensures steady { (t : Tree) → F.tree folder.old ≡ Some t → F.steady folder.old → nat_lt 0 (opens_of t number) ≡ true
         → (IsErrOf result Stop.FileFault → ⊥) × F.steady folder.new }
 {
@@ -118,6 +121,7 @@ fn read_file<F: Folder>(
         → IsReadOf limit (bytes_of t number) found) }
     ensures tree { (t : Tree) → F.tree folder.old ≡ Some t → F.tree folder.new ≡ Some t }
     ensures cause { RoseFor (IsErrOf result Stop.FileFault) (F.faults folder.old) (F.faults folder.new) }
+    ensures short { F.short folder.old ≤ F.short folder.new }
     ensures steady { (t : Tree) → F.tree folder.old ≡ Some t → F.steady folder.old → nat_lt 0 (opens_of t number) ≡ true
         → (IsErrOf result Stop.FileFault → ⊥) × F.steady folder.new }
 {
@@ -142,6 +146,7 @@ pub fn find_named<F: Folder>(
     ensures files { (t : Tree) → F.tree folder.old ≡ Some t → HasFiles t (F.tree folder.new) }
     ensures opens { (t : Tree) → IsWellFormed t → F.tree folder.old ≡ Some t → StaysOrOpens t (F.tree folder.new) }
     ensures cause { RoseFor (IsErrOf result Stop.FileFault) (F.faults folder.old) (F.faults folder.new) }
+    ensures short { F.short folder.old ≤ F.short folder.new }
     ensures steady { (t : Tree) → F.tree folder.old ≡ Some t → F.steady folder.old
         → (IsErrOf result Stop.FileFault → ⊥) × F.steady folder.new }
 {
@@ -164,6 +169,7 @@ fn find_file<F: Folder>(
     ensures files { (t : Tree) → F.tree folder.old ≡ Some t → HasFiles t (F.tree folder.new) }
     ensures opens { (t : Tree) → IsWellFormed t → F.tree folder.old ≡ Some t → StaysOrOpens t (F.tree folder.new) }
     ensures cause { RoseFor (IsErrOf result Stop.FileFault) (F.faults folder.old) (F.faults folder.new) }
+    ensures short { F.short folder.old ≤ F.short folder.new }
     ensures steady { (t : Tree) → F.tree folder.old ≡ Some t → F.steady folder.old
         → (IsErrOf result Stop.FileFault → ⊥) × F.steady folder.new }
 {

@@ -1,17 +1,19 @@
 // The top call: from the words to the answer.
-ghost use Rattle.std.specs.Prelude.{◌≡◌, ◌≢◌, ◌≤◌, [], ◌+◌, ◌++◌, ◌⊎◌, ℕ, List, Option, Some, None, Ok, IsSome, length};
+ghost use Rattle.std.specs.Prelude.{◌≡◌, ◌≤◌, ◌<◌, ◌++◌, ◌⊎◌, ℕ, List, Option, Some, None, Ok, IsSome, length};
 ghost use Rattle.fe_base.specs.Limits.{report_line_limit};
-ghost use Rattle.fe_base.specs.Outside.{capacity, PutSuits};
+ghost use Rattle.fe_base.specs.Outside.{PutSuits};
 ghost use Rattle.folder_tree.specs.Tree.{Tree, IsWellFormed};
-ghost use Rattle.plain_machine.specs.Direct.{HasRoomFor, step_puts};
-ghost use Rattle.spike_front.specs.Answers.{IsEarly, IsRefusal, IsSaid, IsStop, IsWordsRefusal};
+ghost use Rattle.plain_machine.specs.Outsides.{outside};
+ghost use Rattle.plain_machine.specs.Stands.{HasFiles};
+ghost use Rattle.spike_front.specs.Answers.{IsRefusal, IsSaid, IsStop, IsWordsRefusal};
 ghost use Rattle.spike_front.specs.Causes.{RoseFor};
 ghost use Rattle.spike_front.specs.Listings.{GrewBy, IsKept, Listed, Listing, ListingSuits};
 ghost use Rattle.spike_front.specs.Plans.{AreTooLong, AsksListing, HasLimit, IsListing, MayAnswer, MayPut};
 ghost use Rattle.spike_front.specs.Plans.{NamesNone, Plans, plan_of, put, refuse, words_refusal};
-ghost use Rattle.spike_front.specs.FoundFiles.{HasFiles, StaysOrOpens};
+ghost use Rattle.spike_front.specs.FoundFiles.{StaysOrOpens, StaysWellFormed};
 ghost use Rattle.spike_front.specs.Report.{Reported};
-ghost use Rattle.spike_front.specs.Runs.{Asks, IsTimely, Ran, RunCase, state_after};
+ghost use Rattle.spike_front.specs.Runs.{Asks, ConsoleSuits, HasRunCauses, IsCalm, IsTimely, LeavesUnasked, PlainRun};
+ghost use Rattle.spike_front.specs.Runs.{RunCase};
 ghost use Rattle.spike_front.specs.Words.{command_of, first_count};
 
 use crate::answer::Answer;
@@ -62,20 +64,24 @@ pub fn front<I: Source, C: Sink, R: Sink, F: Folder>(
     ensures refused_untouched { (t : Tree) (a : Answer) → Plans words.now t (refuse a) (F.tree folder.old)
         → (input.new ≡ input.old) × (console.new ≡ console.old) × HasFiles t (F.tree folder.new) }
 
-    // Whatever the objects tell: each command has answers of its own, or its report fails. What comes before a first
-    // step left input and console alone, and what is answered of the arguments' length and of the limit is so of the
-    // words. Of a tree that is told all is as it was, but that one of its files may be open once more. A report that is
-    // told has grown by exactly the line of the answer: with a number of steps up to the limit where the command runs a
-    // program, 0 before its first step and the limit where that was spent, and with none where it puts a listing. Of
-    // such a command Done is answered exactly where its text was put: then the report was not called, and a console
-    // that is told has grown by a text that the command may put; else it is as it was.
+    // Whatever the objects tell: each command has answers of its own, or its report fails. A refusal left input and
+    // console alone, and a listing the input; and what is answered of the arguments' length and of the limit is so of
+    // the words. Of a tree that is told all is then as it was, but that one of its files may be open once more; and
+    // whatever is answered it is told, and well formed where it was. A report that is told has grown by exactly the line
+    // of the answer: with a number of steps up to the limit where the command runs a program, 0 where it refuses and the
+    // limit where that was spent, and with none where it puts a listing. Of such a command Done is answered exactly
+    // where its text was put: then the report was not called, and a console that is told has grown by a text that the
+    // command may put; else it is as it was.
     ensures answers { MayAnswer (command_of words.now) result ⊎ (result ≡ Answer.ReportFault) }
-    ensures early_untouched { IsEarly result → (input.new ≡ input.old) × (console.new ≡ console.old) }
+    ensures refusal_untouched { IsRefusal result → (input.new ≡ input.old) × (console.new ≡ console.old) }
+    ensures listing_untouched { IsListing (command_of words.now) → input.new ≡ input.old }
     ensures too_long { (n : ℕ) → result ≡ Answer.ArgsTooLong n → AreTooLong words.now n }
     ensures spent { (n : ℕ) → result ≡ Answer.StepsSpent n → HasLimit words.now n }
-    ensures opens { (t : Tree) → IsWellFormed t → F.tree folder.old ≡ Some t → StaysOrOpens t (F.tree folder.new) }
+    ensures opens { (t : Tree) → IsWellFormed t → F.tree folder.old ≡ Some t
+        → IsRefusal result ⊎ IsListing (command_of words.now) → StaysOrOpens t (F.tree folder.new) }
+    ensures formed { (t : Tree) → IsWellFormed t → F.tree folder.old ≡ Some t → StaysWellFormed (F.tree folder.new) }
     ensures reported { (steps : Option ℕ) × Reported result steps (R.held report.old) (R.held report.new)
-        × (IsEarly result → steps ≡ first_count (command_of words.now))
+        × (IsRefusal result → steps ≡ first_count (command_of words.now))
         × (IsListing (command_of words.now) → steps ≡ None)
         × ((limit : ℕ) → HasLimit words.now limit → (n : ℕ) × (steps ≡ Some n) × (n ≤ limit))
         × ((n : ℕ) → result ≡ Answer.StepsSpent n → steps ≡ Some n) }
@@ -99,30 +105,31 @@ pub fn front<I: Source, C: Sink, R: Sink, F: Folder>(
 
     // Else the program runs. On every answer there is one number of steps at which console, untaken input and files are
     // those of the direct run, which the report tells, and which the answer before the report speaks of, with its
-    // cause. A steady console with room for one step more fails no run, and a steady folder none. The tree is as it
-    // was, counts of opens too, unless the folder failed or there was no memory.
+    // cause; of the tree counts of opens too, unless the folder failed or there was no memory: then one may be more.
+    // Steady objects fail no run. An input that no step asks for bytes is as it was, and so is a console on which none
+    // puts any.
     ensures ran { (c : RunCase) → Asks words.now c (I.left input.old) (C.held console.old) (F.tree folder.old)
         → (answer : Answer) × (steps : ℕ)
-        × Ran c answer steps (I.left input.new) (C.held console.new) (F.tree folder.new)
+        × PlainRun c answer steps (I.left input.new) (C.held console.new) (F.tree folder.new)
         × IsSaid answer result × Reported result (Some steps) (R.held report.old) (R.held report.new)
         × IsTimely c answer steps
-        × RoseFor (answer ≡ Answer.ConsoleFault) (C.faults console.old) (C.faults console.new)
-        × RoseFor (answer ≡ Answer.FileFault) (F.faults folder.old) (F.faults folder.new)
-        × (C.steady console.old → HasRoomFor (capacity (C.held console.old) (C.room console.old))
-        (length (state_after (steps + 1) c).world.console) → answer ≡ Answer.ConsoleFault → ⊥)
-        × (F.steady folder.old → answer ≡ Answer.FileFault → ⊥)
-        × ((IsStop answer → ⊥) → F.tree folder.new ≡ Some c.world.tree) }
+        × HasRunCauses F.Folder I.Source C.Sink (outside folder.old input.old console.old)
+        (outside folder.new input.new console.new) answer steps
+        × IsCalm F.Folder I.Source C.Sink c (outside folder.old input.old console.old) answer steps
+        × LeavesUnasked F.Folder I.Source C.Sink c (outside folder.old input.old console.old)
+        (outside folder.new input.new console.new) steps }
 
-    // Each fault comes only where the count of that object rose in this call. No step that is built reads input.
+    // Each fault comes only where the count of that object rose in this call.
     ensures file_cause { RoseFor (result ≡ Answer.FileFault) (F.faults folder.old) (F.faults folder.new) }
+    ensures input_cause { RoseFor (result ≡ Answer.InputFault) (I.faults input.old) (I.faults input.new) }
     ensures console_cause { RoseFor (result ≡ Answer.ConsoleFault) (C.faults console.old) (C.faults console.new) }
     ensures report_cause { RoseFor (result ≡ Answer.ReportFault) (R.faults report.old) (R.faults report.new) }
-    ensures input_fault { result ≡ Answer.InputFault → ⊥ }
-    ensures input_untouched { input.new ≡ input.old }
 
-    // A steady folder, and a steady report with room for a line, fail no command.
-    ensures file_steady { (t : Tree) → F.tree folder.old ≡ Some t → F.steady folder.old → result ≡ Answer.FileFault
-        → ⊥ }
+    // A steady folder whose tree is told and well formed, a steady input, and a steady report with room for a line fail
+    // no command.
+    ensures file_steady { (t : Tree) → IsWellFormed t → F.tree folder.old ≡ Some t → F.steady folder.old
+        → result ≡ Answer.FileFault → ⊥ }
+    ensures input_steady { I.steady input.old → result ≡ Answer.InputFault → ⊥ }
     ensures report_steady { R.steady report.old → PutSuits (R.room report.old) report_line_limit
         → result ≡ Answer.ReportFault → ⊥ }
 {
@@ -143,17 +150,22 @@ fn command<I: Source, C: Sink, F: Folder>(
         → (result.answer ≡ a) × (input.new ≡ input.old) × (console.new ≡ console.old)
         × (result.steps ≡ first_count (command_of words.now)) }
     ensures untouched { NamesNone (command_of words.now) → folder.new ≡ folder.old }
-    ensures early { IsEarly result.answer → (input.new ≡ input.old) × (console.new ≡ console.old)
+    ensures early { IsRefusal result.answer → (input.new ≡ input.old) × (console.new ≡ console.old)
         × (result.steps ≡ first_count (command_of words.now)) }
     ensures refusal { (t : Tree) → IsWellFormed t → F.tree folder.old ≡ Some t → IsRefusal result.answer
         → plan_of words.now t ≡ refuse result.answer }
     ensures refused { (t : Tree) (a : Answer) → Plans words.now t (refuse a) (F.tree folder.old)
         → ((result.answer ≡ a) ⊎ IsStop result.answer) × (result.steps ≡ first_count (command_of words.now))
-        × (input.new ≡ input.old) × (console.new ≡ console.old) }
+        × (input.new ≡ input.old) × (console.new ≡ console.old) × HasFiles t (F.tree folder.new)
+        × ((IsStop result.answer → ⊥) → F.tree folder.new ≡ Some t) }
     ensures listed { (listing : Listing) → AsksListing words.now listing (F.tree folder.old)
         → Listed listing result.answer (C.held console.old) (C.held console.new)
         × (C.steady console.old → ListingSuits listing (C.room console.old) → result.answer ≡ Answer.ConsoleFault → ⊥) }
-    ensures listing { IsListing (command_of words.now) → result.steps ≡ None }
+    ensures listed_files { IsListing (command_of words.now) → (t : Tree) → IsWellFormed t → F.tree folder.old ≡ Some t
+        → HasFiles t (F.tree folder.new) × ((IsStop result.answer → ⊥) → F.tree folder.new ≡ Some t) }
+    ensures listing_steady { IsListing (command_of words.now) → (t : Tree) → F.tree folder.old ≡ Some t
+        → F.steady folder.old → result.answer ≡ Answer.FileFault → ⊥ }
+    ensures listing { IsListing (command_of words.now) → (result.steps ≡ None) × (input.new ≡ input.old) }
     ensures counted { (limit : ℕ) → HasLimit words.now limit → (n : ℕ) × (result.steps ≡ Some n) × (n ≤ limit) }
     ensures done { result.answer ≡ Answer.Done → IsListing (command_of words.now)
         × GrewBy (MayPut (command_of words.now)) (C.held console.old) (C.held console.new) }
@@ -161,25 +173,27 @@ fn command<I: Source, C: Sink, F: Folder>(
         → IsKept (C.held console.old) (C.held console.new) }
     ensures ran { (c : RunCase) → Asks words.now c (I.left input.old) (C.held console.old) (F.tree folder.old)
         → (steps : ℕ) × (result.steps ≡ Some steps)
-        × Ran c result.answer steps (I.left input.new) (C.held console.new) (F.tree folder.new)
-        × (result.answer ≡ Answer.ConsoleFault → step_puts (state_after steps c).machine ≢ [])
-        × (C.steady console.old → HasRoomFor (capacity (C.held console.old) (C.room console.old))
-        (length (state_after (steps + 1) c).world.console) → result.answer ≡ Answer.ConsoleFault → ⊥) }
-    ensures input { input.new ≡ input.old }
-    ensures files { (t : Tree) → F.tree folder.old ≡ Some t → HasFiles t (F.tree folder.new) }
-    ensures tree { (t : Tree) → IsWellFormed t → F.tree folder.old ≡ Some t → (IsStop result.answer → ⊥)
-        → F.tree folder.new ≡ Some t }
+        × PlainRun c result.answer steps (I.left input.new) (C.held console.new) (F.tree folder.new)
+        × IsTimely c result.answer steps
+        × HasRunCauses F.Folder I.Source C.Sink (outside folder.old input.old console.old)
+        (outside folder.new input.new console.new) result.answer steps
+        × ConsoleSuits F.Folder I.Source C.Sink c console.old steps result.answer
+        × LeavesUnasked F.Folder I.Source C.Sink c (outside folder.old input.old console.old)
+        (outside folder.new input.new console.new) steps }
     ensures answers { MayAnswer (command_of words.now) result.answer }
     ensures no_report { result.answer ≡ Answer.ReportFault → ⊥ }
-    ensures opens { (t : Tree) → IsWellFormed t → F.tree folder.old ≡ Some t → StaysOrOpens t (F.tree folder.new) }
+    ensures opens { (t : Tree) → IsWellFormed t → F.tree folder.old ≡ Some t
+        → IsRefusal result.answer ⊎ IsListing (command_of words.now) → StaysOrOpens t (F.tree folder.new) }
+    ensures formed { (t : Tree) → IsWellFormed t → F.tree folder.old ≡ Some t → StaysWellFormed (F.tree folder.new) }
     ensures too_long { (n : ℕ) → result.answer ≡ Answer.ArgsTooLong n → AreTooLong words.now n }
     ensures spent { (n : ℕ) → result.answer ≡ Answer.StepsSpent n → HasLimit words.now n × (result.steps ≡ Some n) }
     ensures console_cause { RoseFor (result.answer ≡ Answer.ConsoleFault) (C.faults console.old)
         (C.faults console.new) }
-    ensures input_fault { result.answer ≡ Answer.InputFault → ⊥ }
+    ensures input_cause { RoseFor (result.answer ≡ Answer.InputFault) (I.faults input.old) (I.faults input.new) }
     ensures file_cause { RoseFor (result.answer ≡ Answer.FileFault) (F.faults folder.old) (F.faults folder.new) }
-    ensures steady { (t : Tree) → F.tree folder.old ≡ Some t → F.steady folder.old → result.answer ≡ Answer.FileFault
-        → ⊥ }
+    ensures steady { (t : Tree) → IsWellFormed t → F.tree folder.old ≡ Some t → F.steady folder.old
+        → result.answer ≡ Answer.FileFault → ⊥ }
+    ensures input_steady { I.steady input.old → result.answer ≡ Answer.InputFault → ⊥ }
 {
     let asked = read_command(words);
     match make_plan(alloc, words, asked, folder) {

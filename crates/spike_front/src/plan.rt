@@ -7,8 +7,9 @@ ghost use Rattle.folder_tree.specs.Paths.{path_text};
 ghost use Rattle.folder_tree.specs.Tree.{Tree, IsWellFormed};
 ghost use Rattle.fe_base.specs.Limits.{assembly_file_limit, path_text_limit};
 ghost use Rattle.asm_text.specs.Texts.{text_items};
+ghost use Rattle.plain_machine.specs.Stands.{HasFiles};
 ghost use Rattle.spike_front.specs.Causes.{RoseFor};
-ghost use Rattle.spike_front.specs.FoundFiles.{HasFiles, StaysOrOpens};
+ghost use Rattle.spike_front.specs.FoundFiles.{StaysOrOpens};
 ghost use Rattle.spike_front.specs.Plans.{FitsPlan, IsPlan, IsPlanFor, IsProgramPlan, IsSourcePlan, NamesNone};
 ghost use Rattle.spike_front.specs.Plans.{answer_of_fault, folder_word, named_file, named_folder, plan_of};
 ghost use Rattle.spike_front.specs.Plans.{planned_args, planned_image, planned_run, planned_source, planned_text};
@@ -129,6 +130,7 @@ fn plan_image<F: Folder>(
     ensures kind { IfOk result (IsProgramPlan (drop file words.now) limit) }
     ensures tree { (t : Tree) → F.tree folder.old ≡ Some t → F.tree folder.new ≡ Some t }
     ensures cause { RoseFor (IsErrOf result Stop.FileFault) (F.faults folder.old) (F.faults folder.new) }
+    ensures short { F.short folder.old ≤ F.short folder.new }
     ensures steady { (t : Tree) → F.tree folder.old ≡ Some t → F.steady folder.old
         → (IsErrOf result Stop.FileFault → ⊥) × F.steady folder.new }
 {
@@ -160,6 +162,7 @@ fn plan_run<F: Folder>(
     ensures opens { (t : Tree) → IsWellFormed t → F.tree folder.old ≡ Some t → StaysOrOpens t (F.tree folder.new) }
     ensures kind { IfOk result (IsProgramPlan (drop file words.now) limit) }
     ensures cause { RoseFor (IsErrOf result Stop.FileFault) (F.faults folder.old) (F.faults folder.new) }
+    ensures short { F.short folder.old ≤ F.short folder.new }
     ensures steady { (t : Tree) → F.tree folder.old ≡ Some t → F.steady folder.old
         → (IsErrOf result Stop.FileFault → ⊥) × F.steady folder.new }
 {
@@ -223,6 +226,7 @@ fn plan_asm<F: Folder>(
     ensures files { (t : Tree) → F.tree folder.old ≡ Some t → HasFiles t (F.tree folder.new) }
     ensures opens { (t : Tree) → IsWellFormed t → F.tree folder.old ≡ Some t → StaysOrOpens t (F.tree folder.new) }
     ensures cause { RoseFor (IsErrOf result Stop.FileFault) (F.faults folder.old) (F.faults folder.new) }
+    ensures short { F.short folder.old ≤ F.short folder.new }
     ensures steady { (t : Tree) → F.tree folder.old ≡ Some t → F.steady folder.old
         → (IsErrOf result Stop.FileFault → ⊥) × F.steady folder.new }
 {
@@ -251,6 +255,7 @@ pub fn make_plan<F: Folder>(
     ensures files { (t : Tree) → F.tree folder.old ≡ Some t → HasFiles t (F.tree folder.new) }
     ensures opens { (t : Tree) → IsWellFormed t → F.tree folder.old ≡ Some t → StaysOrOpens t (F.tree folder.new) }
     ensures cause { RoseFor (IsErrOf result Stop.FileFault) (F.faults folder.old) (F.faults folder.new) }
+    ensures short { F.short folder.old ≤ F.short folder.new }
     ensures steady { (t : Tree) → F.tree folder.old ≡ Some t → F.steady folder.old
         → (IsErrOf result Stop.FileFault → ⊥) × F.steady folder.new }
 {

@@ -141,7 +141,6 @@ pub fn line_of(answer: Answer, steps: Option<u64>) -> Line
         Answer::InputFault => counted(text("pkfe: input fault"), steps),
         Answer::ConsoleFault => counted(text("pkfe: console fault"), steps),
         Answer::OutOfMemory => counted(text("pkfe: out of memory"), steps),
-        Answer::NotBuilt(3) => counted(text("pkfe: not built 3"), steps),
         Answer::NotBuilt(kind) => ended(numbered("pkfe: not built ", u64::from(kind)), "\n"),
     }
 }

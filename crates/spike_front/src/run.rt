@@ -1,12 +1,14 @@
 // A run of a program on the direct machine.
-ghost use Rattle.std.specs.Prelude.{◌≡◌, ◌≢◌, [], ◌≤◌, ◌<◌, ◌+◌, ℕ, length};
-ghost use Rattle.fe_base.specs.Outside.{capacity};
-ghost use Rattle.plain_machine.specs.Direct.{World, Tells, HasRoomFor, step_puts};
-ghost use Rattle.spike_front.specs.Answers.{IsEarly, IsRunAnswer};
-ghost use Rattle.spike_front.specs.Causes.{RoseFor};
+ghost use Rattle.std.specs.Prelude.{◌≡◌, ◌≤◌, ◌<◌, ℕ, Some};
+ghost use Rattle.folder_tree.specs.Tree.{Tree, IsWellFormed};
+ghost use Rattle.host_text.specs.World.{Contents};
+ghost use Rattle.plain_machine.specs.Outsides.{outside};
+ghost use Rattle.plain_machine.specs.Stands.{Tells};
+ghost use Rattle.spike_front.specs.Answers.{IsRunAnswer};
+ghost use Rattle.spike_front.specs.FoundFiles.{StaysWellFormed};
 ghost use Rattle.spike_front.specs.Plans.{MayBegin};
 ghost use Rattle.spike_front.specs.Runs as spec;
-ghost use Rattle.spike_front.specs.Runs.{Ran, case_of, state_after};
+ghost use Rattle.spike_front.specs.Runs.{ConsoleSuits, HasRunCauses, IsTimely, LeavesUnasked, PlainRun, case_of};
 
 use crate::answer::Answer;
 use elf_loader::Image;
@@ -23,7 +25,7 @@ pub struct RunEnd {
 }
 
 /// Runs a program from its start until it ends, to the limit, or to a step that can't be made. Only the start takes
-/// memory.
+/// memory, and the folder's own calls.
 pub fn run_program<I: Source, C: Sink, F: Folder>(
     alloc: Global,
     image: Image,
@@ -36,27 +38,26 @@ pub fn run_program<I: Source, C: Sink, F: Folder>(
 ) -> RunEnd
     requires begins { MayBegin image args.now root }
     requires some { 0 < limit }
-    ensures ran { (w : World) → Tells w (I.left input.old) (C.held console.old) (F.tree folder.old)
-        → Ran (case_of w image args.now root limit) result.answer result.steps (I.left input.new) (C.held console.new)
-        (F.tree folder.new) }
-    ensures suits { (w : World) → Tells w (I.left input.old) (C.held console.old) (F.tree folder.old)
-        → C.steady console.old
-        → HasRoomFor (capacity (C.held console.old) (C.room console.old))
-        (length (state_after (result.steps + 1) (case_of w image args.now root limit)).world.console)
-        → result.answer ≡ Answer.ConsoleFault → ⊥ }
-    ensures asked { (w : World) → Tells w (I.left input.old) (C.held console.old) (F.tree folder.old)
-        → result.answer ≡ Answer.ConsoleFault
-        → step_puts (state_after result.steps (case_of w image args.now root limit)).machine ≢ [] }
+    ensures ran { (contents : Contents) → Tells contents (I.left input.old) (C.held console.old) (F.tree folder.old)
+        → PlainRun (case_of image args.now root contents limit) result.answer result.steps (I.left input.new)
+        (C.held console.new) (F.tree folder.new) }
+    ensures timely { (contents : Contents) → Tells contents (I.left input.old) (C.held console.old) (F.tree folder.old)
+        → IsTimely (case_of image args.now root contents limit) result.answer result.steps }
+    ensures unasked { (contents : Contents) → Tells contents (I.left input.old) (C.held console.old) (F.tree folder.old)
+        → LeavesUnasked F.Folder I.Source C.Sink (case_of image args.now root contents limit)
+        (outside folder.old input.old console.old) (outside folder.new input.new console.new) result.steps }
+    ensures suits { (contents : Contents) → Tells contents (I.left input.old) (C.held console.old) (F.tree folder.old)
+        → ConsoleSuits F.Folder I.Source C.Sink (case_of image args.now root contents limit) console.old result.steps
+        result.answer }
+    ensures causes { HasRunCauses F.Folder I.Source C.Sink (outside folder.old input.old console.old)
+        (outside folder.new input.new console.new) result.answer result.steps }
+    ensures input_steady { I.steady input.old → result.answer ≡ Answer.InputFault → ⊥ }
+    ensures file_steady { (t : Tree) → IsWellFormed t → F.tree folder.old ≡ Some t → F.steady folder.old
+        → result.answer ≡ Answer.FileFault → ⊥ }
+    ensures formed { (t : Tree) → IsWellFormed t → F.tree folder.old ≡ Some t → StaysWellFormed (F.tree folder.new) }
     ensures answers { IsRunAnswer result.answer }
-    ensures input { input.new ≡ input.old }
-    ensures folder { folder.new ≡ folder.old }
-    ensures early { IsEarly result.answer → (result.answer ≡ Answer.OutOfMemory) × (result.steps ≡ 0)
-        × (console.new ≡ console.old) }
     ensures spent { (n : ℕ) → result.answer ≡ Answer.StepsSpent n → (n ≡ limit) × (result.steps ≡ n) }
     ensures within { result.steps ≤ limit }
-    ensures console_cause { RoseFor (result.answer ≡ Answer.ConsoleFault) (C.faults console.old)
-        (C.faults console.new) }
-    ensures input_fault { result.answer ≡ Answer.InputFault → ⊥ }
 {
     let Ok(mut plain) = Plain::start(alloc, image, args, root) else {
         return RunEnd {
@@ -82,6 +83,5 @@ fn answer_of(end: PlainEnd, limit: u64) -> Answer
         PlainEnd::Fault(PlainFault::InputFault) => Answer::InputFault,
         PlainEnd::Fault(PlainFault::ConsoleFault) => Answer::ConsoleFault,
         PlainEnd::Fault(PlainFault::OutOfMemory) => Answer::OutOfMemory,
-        PlainEnd::Fault(PlainFault::NotBuilt) => Answer::NotBuilt(3),
     }
 }

@@ -1,6 +1,7 @@
 // `front` over objects in memory: what it answers, puts on the console and reports.
 ghost use Rattle.std.specs.Prelude.{◌≡◌, ◌<◌, length};
 
+mod files;
 mod folders;
 mod listings;
 mod programs;
@@ -15,8 +16,8 @@ use folder_memory::MemoryFolder;
 use folder_tree::{Path, read_path};
 use plain_machine::{Plain, PlainEnd};
 use programs::{
-    BEYOND, COUNTER, DIVIDES, END, FOREVER, FRONT, GROWS, HI, JUMPS_BETWEEN, NO_CALL, READS,
-    STORES_FAR, THREE_HUNDRED, program,
+    BEYOND, COUNTER, DIVIDES, END, FOREVER, FRONT, GROWS, HI, JUMPS_BETWEEN, NO_CALL, STORES_FAR,
+    THREE_HUNDRED, program,
 };
 use quiet_folder::{Calls, QuietFolder};
 use std::alloc::{AllocError, Global};
@@ -236,13 +237,6 @@ fn runs_stop(rt: HostRuntime) -> Result<(), Fail> {
         ..plain(&forever, Answer::StepsSpent(1000), 78, b"", spent)
     };
     check(&rt, alloc, &case)?;
-    let reads = program(alloc, &READS)?;
-    let unbuilt = "pkfe: not built 3 after 1 steps\n";
-    check(
-        &rt,
-        alloc,
-        &plain(&reads, Answer::NotBuilt(3), 77, b"", unbuilt),
-    )?;
     let hi = program(alloc, &HI)?;
     let fault = "pkfe: console fault after 5 steps\n";
     let case = Case {

@@ -115,8 +115,58 @@ pub const NO_CALL: [u32; 5] = [
     0x0000_0073,
 ];
 
-/// addi a7, x0, 63; ecall
-pub const READS: [u32; 2] = [0x03f0_0893, 0x0000_0073];
+/// Reads from the input to the end of the user area, and ends with the count: lui a1, 0x1010; addi a1,
+/// a1, -8; addi a2, x0, 8; addi a7, x0, 63; ecall; addi a7, x0, 93; ecall
+pub const TAKES: [u32; 7] = [
+    0x0101_05b7,
+    0xff85_8593,
+    0x0080_0613,
+    0x03f0_0893,
+    0x0000_0073,
+    0x05d0_0893,
+    0x0000_0073,
+];
+
+/// Reads three bytes of the input into eight bytes of ones, behind the first, and writes all eight: lui
+/// s0, 0x20; addi t0, x0, -1; sd t0, 0(s0); addi a1, s0, 1; addi a2, x0, 3; addi a7, x0, 63; ecall; addi
+/// a0, x0, 1; addi a1, s0, 0; addi a2, x0, 8; addi a7, x0, 64; ecall; addi a0, x0, 0; addi a7, x0, 93;
+/// ecall
+pub const TAKES_BETWEEN: [u32; 15] = [
+    0x0002_0437,
+    0xfff0_0293,
+    0x0054_3023,
+    0x0014_0593,
+    0x0030_0613,
+    0x03f0_0893,
+    0x0000_0073,
+    0x0010_0513,
+    0x0004_0593,
+    0x0080_0613,
+    0x0400_0893,
+    0x0000_0073,
+    0x0000_0513,
+    0x05d0_0893,
+    0x0000_0073,
+];
+
+/// Opens `log` to append, and appends its name: addi a0, x0, -100; auipc a1, 0; addi a1, a1, 44; addi
+/// a2, x0, 0x401; addi a7, x0, 56; ecall; addi a2, x0, 3; addi a7, x0, 64; ecall; addi a0, x0, 0; addi
+/// a7, x0, 93; ecall; and the name with a NUL
+pub const APPENDS: [u32; 13] = [
+    0xf9c0_0513,
+    0x0000_0597,
+    0x02c5_8593,
+    0x4010_0613,
+    0x0380_0893,
+    0x0000_0073,
+    0x0030_0613,
+    0x0400_0893,
+    0x0000_0073,
+    0x0000_0513,
+    0x05d0_0893,
+    0x0000_0073,
+    0x0067_6f6c,
+];
 
 /// The file of one segment with this code.
 pub fn program(alloc: Global, code: &[u32]) -> Result<Vec<u8>, AllocError>

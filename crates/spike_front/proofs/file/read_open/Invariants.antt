@@ -9,6 +9,7 @@ invariant-reads g l = record {
   told : (t : Tree) → g.F.Folder.tree l.fn.folder ≡ Some t → l.size ≡ length (bytes_of t l.number) → take l.count l.bytes.items ≡ take l.count (bytes_of t l.number);
   tree : (t : Tree) → g.F.Folder.tree l.fn.folder ≡ Some t → g.F.Folder.tree l.folder ≡ Some t;
   faults : g.F.Folder.faults l.fn.folder ≤ g.F.Folder.faults l.folder;
+  short : g.F.Folder.short l.fn.folder ≤ g.F.Folder.short l.folder;
   steady : (t : Tree) → g.F.Folder.tree l.fn.folder ≡ Some t → g.F.Folder.steady l.fn.folder → nat_lt 0 (opens_of t l.number) ≡ true → g.F.Folder.steady l.folder;
 }
 

@@ -1,16 +1,16 @@
-use Rattle.std.proofs.Common.{◌≡◌, ◌≢◌, ◌≤◌, ◌⊎◌, [], ◌+◌, ℕ, length, refl, ap, sym, subst, ◌∙◌, inl, inr, Some, arith}
-use Rattle.fe_base.specs.Outside.{capacity}
-use Rattle.plain_machine.specs.Direct.{Tells, HasRoomFor, step_puts}
+use Rattle.std.proofs.Common.{◌≡◌, ◌≤◌, ◌⊎◌, ℕ, refl, ap, sym, subst, ◌∙◌, inl, inr, Some, rules, arith}
+use Rattle.plain_machine.specs.Outsides.{outside}
+use Rattle.plain_machine.specs.Stands.{Tells}
 use Rattle.spike_front.specs.Answers.{stage_of, Yields}
 use Rattle.spike_front.specs.Plans.{HasLimit, IsListing, MayAnswer, MayPut, planned_command, refusal_of}
-use Rattle.spike_front.specs.FoundFiles.{HasFiles}
-use Rattle.spike_front.specs.Runs.{RunCase, state_after}
+use Rattle.spike_front.specs.Runs.{ConsoleSuits, IsTimely, RunCase}
 use Rattle.spike_front.specs.Words.{first_count}
 use Rattle.spike_front.specs.declared.answer.Answer.TheVariants.{Done, FileFault, OutOfMemory}
 use Rattle.spike_front.proofs.Stages.{run_not_refusal}
+use Rattle.spike_front.proofs.TreeFacts.{formed_still}
 use Rattle.spike_front.proofs.PlanFacts.{fault_read, kernel_plan, sound_as, limit_counts, limit_not_listing, listing_counts, listing_may, listing_not_run, one_limit, put_is_listing, refusal_may, refused_too_long, refused_words, run_counts, run_has_limit, run_may, same_refusal, some_steps, stop_may}
 use Rattle.spike_front.proofs.Listed.{listed_put, listed_stopped, plan_asked, put_may, text_lists}
-use Rattle.spike_front.proofs.Endings.{Ran-as, Ran-stopped, case_same}
+use Rattle.spike_front.proofs.Endings.{case_same, rose_from, run_as, stopped_run, stopped_timely, unasked_as}
 use Rattle.spike_front.proofs.front.command.Goals as goal
 
 -- where the words are refused, or their file
@@ -32,7 +32,7 @@ pub returns-in-Ok-Refuse-clause-refused : goal.returns-in-Ok-Refuse-clause-refus
 returns-in-Ok-Refuse-clause-refused g c = λ t a plans.
     let plan = c.in-Ok-Refuse.ensures.told t plans.formed plans.tree_told in
     let refused = rw c.in-Ok-Refuse.field-0-is at plan.0 in
-    (inl (same_refusal c.in-Ok-Refuse.answer a (sym refused ∙ plans.planned)), c.first_count.ensures ∙ ap first_count c.read_command-asked.ensures.value, refl, refl)
+    (inl (same_refusal c.in-Ok-Refuse.answer a (sym refused ∙ plans.planned)), c.first_count.ensures ∙ ap first_count c.read_command-asked.ensures.value, refl, refl, c.make_plan.ensures.files t plans.tree_told, λ going. plan.1)
 
 pub returns-in-Ok-Refuse-clause-listed : goal.returns-in-Ok-Refuse-clause-listed
 returns-in-Ok-Refuse-clause-listed g c = λ listing asks.
@@ -44,11 +44,11 @@ returns-in-Ok-Refuse-clause-listed g c = λ listing asks.
 
 pub returns-in-Ok-Refuse-clause-listing : goal.returns-in-Ok-Refuse-clause-listing
 returns-in-Ok-Refuse-clause-listing g c = λ listing.
-    c.first_count.ensures ∙ listing_counts c.read_command-asked.result (subst IsListing (sym c.read_command-asked.ensures.value) listing)
+    (c.first_count.ensures ∙ listing_counts c.read_command-asked.result (subst IsListing (sym c.read_command-asked.ensures.value) listing), refl)
 
 pub returns-in-Ok-Refuse-clause-ran : goal.returns-in-Ok-Refuse-clause-ran
 returns-in-Ok-Refuse-clause-ran g c = λ d asks.
-    let plan = c.in-Ok-Refuse.ensures.told d.world.tree asks.formed asks.told.tree_told in
+    let plan = c.in-Ok-Refuse.ensures.told d.start.contents.tree asks.formed asks.told.tree_told in
     let refused = rw c.in-Ok-Refuse.field-0-is at plan.0 in
     let planned = asks.planned in
     absurd cc
@@ -98,7 +98,7 @@ returns-in-Ok-Put-clause-counted g c = λ limit has.
 
 pub returns-in-Ok-Put-clause-ran : goal.returns-in-Ok-Put-clause-ran
 returns-in-Ok-Put-clause-ran g c = λ d asks.
-    let plan = c.in-Ok-Put.ensures.told d.world.tree asks.formed asks.told.tree_told in
+    let plan = c.in-Ok-Put.ensures.told d.start.contents.tree asks.formed asks.told.tree_told in
     let made = rw c.in-Ok-Put.field-0-is at plan.0 in
     let here = made.1 in
     let planned = asks.planned in
@@ -165,18 +165,27 @@ returns-in-Ok-Run-clause-counted g c = λ limit has.
 
 pub returns-in-Ok-Run-clause-ran : goal.returns-in-Ok-Run-clause-ran
 returns-in-Ok-Run-clause-ran g c = λ d asks.
-    let plan = c.in-Ok-Run.ensures.told d.world.tree asks.formed asks.told.tree_told in
-    let read : Tells d.world (g.I.Source.left c.args.input.now) (g.C.Sink.held c.args.console.now) (g.F.Folder.tree c.make_plan.new.folder) =
+    let plan = c.in-Ok-Run.ensures.told d.start.contents.tree asks.formed asks.told.tree_told in
+    let read : Tells d.start.contents (g.I.Source.left c.args.input.now) (g.C.Sink.held c.args.console.now) (g.F.Folder.tree c.make_plan.new.folder) =
     record { input_told = asks.told.input_told; console_told = asks.told.console_told; tree_told = plan.1 } in
     let made = rw c.in-Ok-Run.field-0-is at plan.0 in
     let same = case_same d c.in-Ok-Run.image c.in-Ok-Run.args c.in-Ok-Run.root c.in-Ok-Run.limit (sym made ∙ asks.planned) in
+    let known = c.run_program-end.ensures in
+    let answer = c.run_program-end.result.answer in
     let steps = c.run_program-end.result.steps in
-    let room = λ (e : RunCase). HasRoomFor (capacity (g.C.Sink.held c.args.console.now) (g.C.Sink.room c.args.console.now)) (length (state_after (steps + 1) e).world.console) in (
+    let unasked = unasked_as _ d steps same (known.unasked d.start.contents read) in (
       steps,
       refl,
-      Ran-as _ d c.run_program-end.result.answer steps same (c.run_program-end.ensures.ran d.world read),
-      λ h. subst (λ (e : RunCase). step_puts (state_after steps e).machine ≢ []) same (c.run_program-end.ensures.asked d.world read h),
-      λ steady there h. c.run_program-end.ensures.suits d.world read steady (subst room (sym same) there) h,
+      run_as _ d answer steps same (known.ran d.start.contents read),
+      subst (λ (e : RunCase). IsTimely e answer steps) same (known.timely d.start.contents read),
+      record {
+        file = record { later = omega (arith, c.make_plan.ensures.cause.later, known.causes.file.later); rose = λ h. rose_from _ _ _ c.make_plan.ensures.cause.later (known.causes.file.rose h) };
+        memory = record { later = omega (arith, c.make_plan.ensures.short, known.causes.memory.later); rose = λ h. rose_from _ _ _ c.make_plan.ensures.short (known.causes.memory.rose h) };
+        input = known.causes.input;
+        console = known.causes.console;
+      },
+      subst (λ (e : RunCase). ConsoleSuits g.F.Folder g.I.Source g.C.Sink e c.args.console.now steps answer) same (known.suits d.start.contents read),
+      record { input = unasked.input; console = unasked.console },
     )
 
 pub returns-in-Ok-Run-clause-spent : goal.returns-in-Ok-Run-clause-spent
@@ -185,17 +194,18 @@ returns-in-Ok-Run-clause-spent g c = λ n h.
     let limit = run_has_limit c.read_command-asked.result c.args.words.now c.in-Ok-Run.image c.in-Ok-Run.args c.in-Ok-Run.root c.in-Ok-Run.limit (sym c.read_command-asked.ensures.value) (rw c.in-Ok-Run.field-0-is at c.in-Ok-Run.ensures.kind) in
     (subst (HasLimit c.args.words.now) (sym both.0) limit, ap Some both.1)
 
-pub returns-in-Ok-Run-clause-files : goal.returns-in-Ok-Run-clause-files
-returns-in-Ok-Run-clause-files g c = λ t told.
-    subst (HasFiles t) (sym (ap (λ f. g.F.Folder.tree f) c.run_program-end.ensures.folder)) (c.make_plan.ensures.files t told)
+pub returns-in-Ok-Run-clause-formed : goal.returns-in-Ok-Run-clause-formed
+returns-in-Ok-Run-clause-formed g c = λ t formed told. c.run_program-end.ensures.formed t formed (c.in-Ok-Run.ensures.told t formed told).1
 
 -- where the work stops before
 
 pub returns-in-Err-FileFault-clause-refused : goal.returns-in-Err-FileFault-clause-refused
-returns-in-Err-FileFault-clause-refused g c = λ t a plans. (inr refl, c.first_count-in-Err-FileFault.ensures ∙ ap first_count c.read_command-asked.ensures.value, refl, refl)
+returns-in-Err-FileFault-clause-refused g c = λ t a plans.
+    (inr refl, c.first_count-in-Err-FileFault.ensures ∙ ap first_count c.read_command-asked.ensures.value, refl, refl, c.make_plan.ensures.files t plans.tree_told, λ going. absurd (going refl))
 
 pub returns-in-Err-OutOfMemory-clause-refused : goal.returns-in-Err-OutOfMemory-clause-refused
-returns-in-Err-OutOfMemory-clause-refused g c = λ t a plans. (inr refl, c.first_count-in-Err-OutOfMemory.ensures ∙ ap first_count c.read_command-asked.ensures.value, refl, refl)
+returns-in-Err-OutOfMemory-clause-refused g c = λ t a plans.
+    (inr refl, c.first_count-in-Err-OutOfMemory.ensures ∙ ap first_count c.read_command-asked.ensures.value, refl, refl, c.make_plan.ensures.files t plans.tree_told, λ going. absurd (going refl))
 
 pub returns-in-Err-FileFault-clause-listed : goal.returns-in-Err-FileFault-clause-listed
 returns-in-Err-FileFault-clause-listed g c = λ listing asks. (listed_stopped listing FileFault _ refl, λ steady room h. cc)
@@ -205,32 +215,48 @@ returns-in-Err-OutOfMemory-clause-listed g c = λ listing asks. (listed_stopped 
 
 pub returns-in-Err-FileFault-clause-listing : goal.returns-in-Err-FileFault-clause-listing
 returns-in-Err-FileFault-clause-listing g c = λ listing.
-    c.first_count-in-Err-FileFault.ensures ∙ listing_counts c.read_command-asked.result (subst IsListing (sym c.read_command-asked.ensures.value) listing)
+    (c.first_count-in-Err-FileFault.ensures ∙ listing_counts c.read_command-asked.result (subst IsListing (sym c.read_command-asked.ensures.value) listing), refl)
 
 pub returns-in-Err-OutOfMemory-clause-listing : goal.returns-in-Err-OutOfMemory-clause-listing
 returns-in-Err-OutOfMemory-clause-listing g c = λ listing.
-    c.first_count-in-Err-OutOfMemory.ensures ∙ listing_counts c.read_command-asked.result (subst IsListing (sym c.read_command-asked.ensures.value) listing)
+    (c.first_count-in-Err-OutOfMemory.ensures ∙ listing_counts c.read_command-asked.result (subst IsListing (sym c.read_command-asked.ensures.value) listing), refl)
 
 pub returns-in-Err-FileFault-clause-ran : goal.returns-in-Err-FileFault-clause-ran
 returns-in-Err-FileFault-clause-ran g c = λ d asks.
-    let planned = ap (λ r. planned_command r c.args.words.now d.world.tree) c.read_command-asked.ensures.value ∙ asks.planned in
-    let some = some_steps c.read_command-asked.result _ d.limit c.args.words.now d.args d.world.tree d.image d.root (sound_as c.read_command-asked.result _ c.read_command-asked.ensures.sound) planned in (
+    let t = d.start.contents.tree in
+    let planned = ap (λ r. planned_command r c.args.words.now t) c.read_command-asked.ensures.value ∙ asks.planned in
+    let some = some_steps c.read_command-asked.result _ d.limit c.args.words.now d.start.args t d.start.image d.start.root (sound_as c.read_command-asked.result _ c.read_command-asked.ensures.sound) planned in (
       0,
-      c.first_count-in-Err-FileFault.ensures ∙ run_counts c.read_command-asked.result c.args.words.now d.world.tree d.image d.args d.root d.limit planned,
-      Ran-stopped d FileFault some refl (record { input_told = asks.told.input_told; console_told = asks.told.console_told; files_told = c.make_plan.ensures.files d.world.tree asks.told.tree_told }),
-      λ h. cc,
-      λ steady there h. cc,
+      c.first_count-in-Err-FileFault.ensures ∙ run_counts c.read_command-asked.result c.args.words.now t d.start.image d.start.args d.start.root d.limit planned,
+      stopped_run d FileFault some refl asks.told.input_told asks.told.console_told (c.make_plan.ensures.files t asks.told.tree_told) (c.make_plan.ensures.opens t asks.formed asks.told.tree_told),
+      stopped_timely d FileFault refl,
+      record {
+        file = record { later = c.make_plan.ensures.cause.later; rose = λ h. c.make_plan.ensures.cause.rose (search rules) };
+        memory = record { later = c.make_plan.ensures.short; rose = λ h. absurd (omega (arith, h.1)) };
+        input = record { later = omega arith; rose = λ h. cc };
+        console = record { later = omega arith; rose = λ h. cc };
+      },
+      λ steady room h. cc,
+      record { input = λ never. refl; console = λ never. refl },
     )
 
 pub returns-in-Err-OutOfMemory-clause-ran : goal.returns-in-Err-OutOfMemory-clause-ran
 returns-in-Err-OutOfMemory-clause-ran g c = λ d asks.
-    let planned = ap (λ r. planned_command r c.args.words.now d.world.tree) c.read_command-asked.ensures.value ∙ asks.planned in
-    let some = some_steps c.read_command-asked.result _ d.limit c.args.words.now d.args d.world.tree d.image d.root (sound_as c.read_command-asked.result _ c.read_command-asked.ensures.sound) planned in (
+    let t = d.start.contents.tree in
+    let planned = ap (λ r. planned_command r c.args.words.now t) c.read_command-asked.ensures.value ∙ asks.planned in
+    let some = some_steps c.read_command-asked.result _ d.limit c.args.words.now d.start.args t d.start.image d.start.root (sound_as c.read_command-asked.result _ c.read_command-asked.ensures.sound) planned in (
       0,
-      c.first_count-in-Err-OutOfMemory.ensures ∙ run_counts c.read_command-asked.result c.args.words.now d.world.tree d.image d.args d.root d.limit planned,
-      Ran-stopped d OutOfMemory some refl (record { input_told = asks.told.input_told; console_told = asks.told.console_told; files_told = c.make_plan.ensures.files d.world.tree asks.told.tree_told }),
-      λ h. cc,
-      λ steady there h. cc,
+      c.first_count-in-Err-OutOfMemory.ensures ∙ run_counts c.read_command-asked.result c.args.words.now t d.start.image d.start.args d.start.root d.limit planned,
+      stopped_run d OutOfMemory some refl asks.told.input_told asks.told.console_told (c.make_plan.ensures.files t asks.told.tree_told) (c.make_plan.ensures.opens t asks.formed asks.told.tree_told),
+      stopped_timely d OutOfMemory refl,
+      record {
+        file = record { later = c.make_plan.ensures.cause.later; rose = λ h. cc };
+        memory = record { later = c.make_plan.ensures.short; rose = λ h. absurd (omega (arith, h.1)) };
+        input = record { later = omega arith; rose = λ h. cc };
+        console = record { later = omega arith; rose = λ h. cc };
+      },
+      λ steady room h. cc,
+      record { input = λ never. refl; console = λ never. refl },
     )
 
 pub returns-in-Err-FileFault-clause-counted : goal.returns-in-Err-FileFault-clause-counted
@@ -248,3 +274,27 @@ returns-in-Err-FileFault-clause-answers g c =
 pub returns-in-Err-OutOfMemory-clause-answers : goal.returns-in-Err-OutOfMemory-clause-answers
 returns-in-Err-OutOfMemory-clause-answers g c =
     subst (λ read. MayAnswer read OutOfMemory) c.read_command-asked.ensures.value (stop_may c.read_command-asked.result OutOfMemory (λ fault read. let planned = c.make_plan.ensures.refused fault read in let is = c.in-Err-OutOfMemory.is in cc) refl)
+
+pub returns-in-Ok-Refuse-clause-listed_files : goal.returns-in-Ok-Refuse-clause-listed_files
+returns-in-Ok-Refuse-clause-listed_files g c = λ listing t formed told. (c.make_plan.ensures.files t told, λ going. (c.in-Ok-Refuse.ensures.told t formed told).1)
+
+pub returns-in-Ok-Refuse-clause-formed : goal.returns-in-Ok-Refuse-clause-formed
+returns-in-Ok-Refuse-clause-formed g c = λ t formed told. formed_still t _ formed (c.make_plan.ensures.opens t formed told)
+
+pub returns-in-Ok-Put-clause-listed_files : goal.returns-in-Ok-Put-clause-listed_files
+returns-in-Ok-Put-clause-listed_files g c = λ listing t formed told. (c.make_plan.ensures.files t told, λ going. (c.in-Ok-Put.ensures.told t formed told).1)
+
+pub returns-in-Ok-Put-clause-formed : goal.returns-in-Ok-Put-clause-formed
+returns-in-Ok-Put-clause-formed g c = λ t formed told. formed_still t _ formed (c.make_plan.ensures.opens t formed told)
+
+pub returns-in-Err-FileFault-clause-listed_files : goal.returns-in-Err-FileFault-clause-listed_files
+returns-in-Err-FileFault-clause-listed_files g c = λ listing t formed told. (c.make_plan.ensures.files t told, λ going. absurd (going refl))
+
+pub returns-in-Err-FileFault-clause-formed : goal.returns-in-Err-FileFault-clause-formed
+returns-in-Err-FileFault-clause-formed g c = λ t formed told. formed_still t _ formed (c.make_plan.ensures.opens t formed told)
+
+pub returns-in-Err-OutOfMemory-clause-listed_files : goal.returns-in-Err-OutOfMemory-clause-listed_files
+returns-in-Err-OutOfMemory-clause-listed_files g c = λ listing t formed told. (c.make_plan.ensures.files t told, λ going. absurd (going refl))
+
+pub returns-in-Err-OutOfMemory-clause-formed : goal.returns-in-Err-OutOfMemory-clause-formed
+returns-in-Err-OutOfMemory-clause-formed g c = λ t formed told. formed_still t _ formed (c.make_plan.ensures.opens t formed told)

@@ -1,7 +1,7 @@
 use Rattle.std.proofs.Common.{inl, inr, sym, subst, None, Some}
 use Rattle.spike_front.specs.Plans.{MayAnswer, words_refusal}
 use Rattle.spike_front.specs.Words.{command_of, first_count}
-use Rattle.spike_front.specs.declared.answer.Answer.TheVariants.{ConsoleFault, Done, FileFault}
+use Rattle.spike_front.specs.declared.answer.Answer.TheVariants.{ConsoleFault, Done, FileFault, InputFault}
 use Rattle.spike_front.proofs.Stages.{early_said, refusal_said, reported_at, rose_said, said_as, said_of, words_said}
 use Rattle.spike_front.proofs.PlanFacts.{asked_is_listing, refused_names_none, run_counts, some_is, steps_early}
 use Rattle.spike_front.proofs.front.front.Goals as goal
@@ -32,14 +32,14 @@ returns-clause-refused g c = λ t a plans.
       c.put_report.ensures.said,
       reported_at c.put_report.result c.command-ending.result.steps (first_count (command_of c.args.words.now)) _ _ known.1 c.put_report.ensures.reported,
       c.command-ending.ensures.file_cause,
-      λ steady h. c.command-ending.ensures.steady t plans.tree_told steady h,
-      λ going. c.command-ending.ensures.tree t plans.formed plans.tree_told going,
+      λ steady h. c.command-ending.ensures.steady t plans.formed plans.tree_told steady h,
+      known.5,
     )
 
 pub returns-clause-refused_untouched : goal.returns-clause-refused_untouched
 returns-clause-refused_untouched g c = λ t a plans.
     let known = c.command-ending.ensures.refused t a plans in
-    (known.2, known.3, c.command-ending.ensures.files t plans.tree_told)
+    (known.2, known.3, known.4)
 
 pub returns-clause-answers : goal.returns-clause-answers
 returns-clause-answers g c =
@@ -48,9 +48,19 @@ returns-clause-answers g c =
       | inr fault ↦ inr fault
     ]
 
-pub returns-clause-early_untouched : goal.returns-clause-early_untouched
-returns-clause-early_untouched g c = λ early.
-    early_said _ _ c.put_report.ensures.said early (λ is. let known = c.command-ending.ensures.early is in (known.0, known.1))
+pub returns-clause-refusal_untouched : goal.returns-clause-refusal_untouched
+returns-clause-refusal_untouched g c = λ refusal.
+    early_said _ _ c.put_report.ensures.said refusal (λ is. let known = c.command-ending.ensures.early is in (known.0, known.1))
+
+pub returns-clause-listing_untouched : goal.returns-clause-listing_untouched
+returns-clause-listing_untouched g c = λ listing. (c.command-ending.ensures.listing listing).1
+
+pub returns-clause-opens : goal.returns-clause-opens
+returns-clause-opens g c = λ t formed told which.
+    elim which [
+      | inl refusal ↦ early_said _ _ c.put_report.ensures.said refusal (λ is. c.command-ending.ensures.opens t formed told (inl is))
+      | inr listing ↦ c.command-ending.ensures.opens t formed told (inr listing)
+    ]
 
 pub returns-clause-too_long : goal.returns-clause-too_long
 returns-clause-too_long g c = λ n h. said_of _ _ _ (λ no. cc) c.put_report.ensures.said h (c.command-ending.ensures.too_long n)
@@ -72,7 +82,7 @@ returns-clause-reported g c = (
   c.command-ending.result.steps,
   c.put_report.ensures.reported,
   λ early. early_said _ _ c.put_report.ensures.said early (λ is. (c.command-ending.ensures.early is).2),
-  c.command-ending.ensures.listing,
+  λ listing. (c.command-ending.ensures.listing listing).0,
   c.command-ending.ensures.counted,
   λ n h. said_of _ _ _ (λ no. cc) c.put_report.ensures.said h (λ is. (c.command-ending.ensures.spent n is).1),
 )
@@ -80,17 +90,18 @@ returns-clause-reported g c = (
 pub returns-clause-listed : goal.returns-clause-listed
 returns-clause-listed g c = λ listing asks.
     let known = c.command-ending.ensures in
+    let is_listing = asked_is_listing c.args.words.now listing _ asks in
     let left = known.listed listing asks in (
       c.command-ending.result.answer,
       left.0,
       c.put_report.ensures.said,
       λ is. (c.put_report.ensures.done is).0,
-      reported_at c.put_report.result c.command-ending.result.steps None _ _ (known.listing (asked_is_listing c.args.words.now listing _ asks)) c.put_report.ensures.reported,
+      reported_at c.put_report.result c.command-ending.result.steps None _ _ (known.listing is_listing).0 c.put_report.ensures.reported,
       known.console_cause,
       known.file_cause,
       left.1,
-      λ t told steady h. known.steady t told steady h,
-      λ t formed told. (known.files t told, λ going. known.tree t formed told going),
+      known.listing_steady is_listing,
+      known.listed_files is_listing,
     )
 
 pub returns-clause-ran : goal.returns-clause-ran
@@ -103,16 +114,14 @@ returns-clause-ran g c = λ d asks.
       run.2,
       c.put_report.ensures.said,
       reported_at c.put_report.result ending.steps (Some run.0) _ _ run.1 c.put_report.ensures.reported,
-      record {
-        console_asked = run.3;
-        early = λ h. steps_early ending.steps run.0 _ run.1 (known.early h).2 (run_counts (command_of c.args.words.now) c.args.words.now d.world.tree d.image d.args d.root d.limit asks.planned);
-        no_input_fault = known.input_fault;
-      },
-      known.console_cause,
-      known.file_cause,
+      run.3,
       run.4,
-      λ steady h. known.steady d.world.tree asks.told.tree_told steady h,
-      λ going. known.tree d.world.tree asks.formed asks.told.tree_told going,
+      record {
+        folder = λ steady h. known.steady d.start.contents.tree asks.formed asks.told.tree_told steady h;
+        input = λ steady h. known.input_steady steady h;
+        console = run.5;
+      },
+      run.6,
     )
 
 pub returns-clause-file_cause : goal.returns-clause-file_cause
@@ -120,3 +129,6 @@ returns-clause-file_cause g c = rose_said _ _ FileFault (λ no. cc) c.put_report
 
 pub returns-clause-console_cause : goal.returns-clause-console_cause
 returns-clause-console_cause g c = rose_said _ _ ConsoleFault (λ no. cc) c.put_report.ensures.said c.command-ending.ensures.console_cause
+
+pub returns-clause-input_cause : goal.returns-clause-input_cause
+returns-clause-input_cause g c = rose_said _ _ InputFault (λ no. cc) c.put_report.ensures.said c.command-ending.ensures.input_cause
