@@ -1,5 +1,6 @@
 -- The file, or the directory, that a word names: what is found at its path, and what finding it leaves of a tree.
-use Rattle.std.specs.Prelude.{◌≡◌, ◌<◌, ◌≤◌, ◌⊎◌, ℕ, ⊤, if◌then◌else◌, List, length, Option, Some, None, Result, Ok, Err}
+use Rattle.std.specs.Prelude.{◌≡◌, ◌<◌, ◌≤◌, ◌⊎◌, ℕ, ⊤, if◌then◌else◌, List, length, Option, Some, None, Result}
+use Rattle.std.specs.Prelude.{Ok, Err}
 use Rattle.fe_base.specs.declared.error_numbers.ErrNo.{ErrNo}
 use Rattle.folder_tree.specs.Paths.{Parts, path_of}
 use Rattle.folder_tree.specs.Tree.{Tree, IsWellFormed, file_of, kind_of, number_at}

@@ -1,5 +1,5 @@
 -- What a run of `plain` leaves and answers, by the direct run.
-use Rattle.std.specs.Prelude.{◌≡◌, ◌≢◌, ◌≤◌, ◌<◌, ◌+◌, ◌↔◌, ◌==◌, ◌&&◌, ◌||◌, ℕ, Bool, true, List, [], length, Option, Some}
+use Rattle.std.specs.Prelude.{◌≡◌, ◌≢◌, ◌≤◌, ◌<◌, ◌+◌, ◌↔◌, ◌==◌, ◌&&◌, ◌||◌, ℕ, Bool, true, List, [], length, Option}
 use Rattle.std.specs.Prelude.{None}
 use Rattle.elf_loader.specs.declared.image.Image.{Image}
 use Rattle.fe_base.specs.Outside.{capacity}

@@ -67,11 +67,11 @@ pub fn front<I: Source, C: Sink, R: Sink, F: Folder>(
     // Whatever the objects tell: each command has answers of its own, or its report fails. A refusal left input and
     // console alone, and a listing the input; and what is answered of the arguments' length and of the limit is so of
     // the words. Of a tree that is told all is then as it was, but that one of its files may be open once more; and
-    // whatever is answered it is told, and well formed where it was. A report that is told has grown by exactly the line
-    // of the answer: with a number of steps up to the limit where the command runs a program, 0 where it refuses and the
-    // limit where that was spent, and with none where it puts a listing. Of such a command Done is answered exactly
-    // where its text was put: then the report was not called, and a console that is told has grown by a text that the
-    // command may put; else it is as it was.
+    // whatever is answered it is told, and well formed where it was. A report that is told has grown by exactly the
+    // line of the answer: with a number of steps up to the limit where the command runs a program, 0 where it refuses
+    // and the limit where that was spent, and with none where it puts a listing. Of such a command Done is answered
+    // exactly where its text was put: then the report was not called, and a console that is told has grown by a text
+    // that the command may put; else it is as it was.
     ensures answers { MayAnswer (command_of words.now) result ⊎ (result ≡ Answer.ReportFault) }
     ensures refusal_untouched { IsRefusal result → (input.new ≡ input.old) × (console.new ≡ console.old) }
     ensures listing_untouched { IsListing (command_of words.now) → input.new ≡ input.old }

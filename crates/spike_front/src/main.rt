@@ -1,30 +1,33 @@
 // The front end's program. `front` does what the words of the command line ask for: it reads the file that they name,
-// runs it on the direct machine between standard input and standard output, and puts one line on standard error that
-// tells how that ended and after how many steps. `main` hands in the process's own streams and working directory.
+// runs it on the direct machine between standard input, standard output and a folder, and puts one line on standard
+// error that tells how that ended and after how many steps. `main` hands in the process's own streams and working
+// directory.
 //
 // What each clause of `front` says:
 //
 // - `words`, `other_words`, `other_words_untouched`: Words that are no command are refused first, exactly, with the
 //   kind and place of their first failure by the grammar of `specs/Words`, and then nothing but the report is called.
 // - `no_file_untouched`: Words that name no file call the folder not at all.
-// - `refusal`, `refused`, `refused_untouched`: The other refusals (no program, the file's fault, arguments too long, a
-//   fault of assembly text) are exactly those of the plan that words and files determine (`specs/Plans`), in order.
-//   They yield only to a fault of the folder, to want of memory and to a report that fails. All files are as they were.
-// - `answers`: Whatever the objects tell: `plain` refuses the file, or answers as a run does; `kernel` and `asm` answer
-//   Done or a fault, and `asm` a refusal of the file; words that are no command have their one answer. Besides, any
-//   report may fail.
-// - `early_untouched`: Whatever the objects tell: a refusal, a fault of the folder and want of memory come before a
-//   first step, and then input and console were not called.
+// - `refusal`, `refused`, `refused_untouched`: The other refusals (no program, the file's fault, no folder, arguments
+//   too long, a fault of assembly text) are exactly those of the plan that words and files determine (`specs/Plans`),
+//   in order. They yield only to a fault of the folder, to want of memory and to a report that fails. All files are as
+//   they were.
+// - `answers`: Whatever the objects tell: `plain` refuses the file or what it would run with, or answers as a run does;
+//   `kernel` and `asm` answer Done or a fault, and `asm` a refusal of the file; words that are no command have their
+//   one answer. Besides, any report may fail.
+// - `refusal_untouched`, `listing_untouched`: Whatever the objects tell: where the answer is a refusal, input and
+//   console were not called; and a command that puts a listing does not call the input.
 // - `too_long`, `spent`: ArgsTooLong(N) comes only where the main vars of the words' arguments have N bytes, above
 //   65,536; the number of StepsSpent is the limit of the words.
-// - `opens`: Of a told tree all stays but that one of its files may be open once more.
+// - `opens`, `formed`: Of a told tree all stays, where the answer is a refusal or the command puts a listing, but that
+//   one of its files may be open once more. Whatever is answered, it is told, and well formed where it was.
 // - `reported`: A told report has grown by exactly the line of the answer. For `plain` the line's number of steps is at
-//   most the limit of the words, 0 for what comes before a first step, and the limit where that was spent; every other
-//   command has a line without a number. After ReportFault the report is as it was.
+//   most the limit of the words, 0 for a refusal, and the limit where that was spent; every other command has a line
+//   without a number. After ReportFault the report is as it was.
 // - `done`, `not_done`: Done comes only of a command that puts a listing. Then the report was not called, and a told
 //   console has grown by a text that the command may put, whatever the folder holds: print_asm's text of the kernel's
-//   items, or the words of what some assembly file means. Where such a command answers anything else, a told console
-//   is as it was.
+//   items, or the words of what some assembly file means. Where such a command answers anything else, a told console is
+//   as it was.
 // - `listed`: A listing that words and files determine is put whole, and then the answer is Done and nothing else, or
 //   the console is as it was, and then the folder or the console failed or there was no memory. What is put lists what
 //   the words ask for (`specs/Listings`): print_asm's text of the kernel's items, or the words of bytes that hold what
@@ -32,15 +35,16 @@
 //   listing.
 // - `ran`: On every answer of a run, the faults and OutOfMemory too, there is one number of steps at which console,
 //   untaken input and files are those of the direct run (`specs/Runs`), and which the report tells. No earlier state
-//   had ended or came to a step that is not built. Exited(s), StepsSpent(limit) and NotBuilt(3) come exactly where the
-//   direct run says so. A fault of the console comes only at a step that puts bytes; each fault has its cause also
-//   where ReportFault replaced it. A steady console with room for one step more, and a steady folder, fail no run.
-//   Unless the folder failed or there was no memory, the whole tree is as it was, counts of opens too.
-// - `file_cause`, `console_cause`, `report_cause`: The counts of faults never fall, and each fault comes only where the
-//   count of that object rose in this call.
-// - `input_fault`, `input_untouched`: InputFault never comes, and the input is not called.
-// - `file_steady`, `report_steady`: Over a steady folder, and a steady report with room for a line of 128 bytes, no
-//   fault of theirs is answered.
+//   had ended. Exited(s) and StepsSpent(limit) come exactly where the direct run says so. The whole tree is that of the
+//   direct run, counts of opens too, but that one file may be open once more where the folder failed, or there was no
+//   memory, before the first step or in an openat that takes the file's bytes away. A fault comes only at a step that
+//   asks that object, and want of memory behind the first step only at one that asks the folder; each has its cause,
+//   also where ReportFault replaced it. Steady objects fail no run, a console with room for one step more among them.
+//   An input that no step takes from is as it was, and so is a console that no step puts on.
+// - `file_cause`, `input_cause`, `console_cause`, `report_cause`: The counts of faults never fall, and each fault comes
+//   only where the count of that object rose in this call.
+// - `file_steady`, `input_steady`, `report_steady`: Over a steady folder whose tree is told and well formed, a steady
+//   input, and a steady report with room for a line of 128 bytes, no fault of theirs is answered.
 #![tactic(auto)]
 
 mod answer;

@@ -10,8 +10,8 @@ use std::alloc::{AllocError, Global};
 use std::process::Abort;
 use std::test::Fail;
 
-/// A run of the file `p` with an input of `abcde`, with the numbers of the input's takes that fail, and what must come of
-/// it.
+/// A run of the file `p` with an input of `abcde`, with the numbers of the input's takes that fail, and what must come
+/// of it.
 #[derive(Clone, Copy)]
 struct Taking<'a> {
     file: &'a [u8],
@@ -82,7 +82,8 @@ fn input_is_taken(rt: HostRuntime) -> Result<(), Fail> {
     takes(&rt, alloc, &case)
 }
 
-// A folder whose calls with these numbers fail, with the program `p`, and a file `log` in the root and in the directory `d`.
+// A folder whose calls with these numbers fail, with the program `p`, and a file `log` in the root and in the directory
+// `d`.
 fn logs(rt: &impl Abort, alloc: Global, failing: &[u64]) -> Result<MemoryFolder, Fail> {
     let mut folder = MemoryFolder::new(alloc, failing)?;
     let directory = read_path(b"d")?;

@@ -13,8 +13,8 @@ pub struct Calls {
     pub release: u64,
 }
 
-/// A folder that has a file at every path but its root. Reads give its bytes to their end, wherever its size says that it
-/// ends.
+/// A folder that has a file at every path but its root. Reads give its bytes to their end, wherever its size says that
+/// it ends.
 #[derive(Drop)]
 pub struct QuietFolder<'a> {
     bytes: &'a [u8],
