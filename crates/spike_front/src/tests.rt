@@ -17,7 +17,7 @@ use folder_tree::{Path, read_path};
 use plain_machine::{Plain, PlainEnd};
 use programs::{
     BEYOND, COUNTER, DIVIDES, END, FOREVER, FRONT, GROWS, HI, JUMPS_BETWEEN, NO_CALL, STORES_FAR,
-    THREE_HUNDRED, program,
+    THREE_HUNDRED, hello, program,
 };
 use quiet_folder::{Calls, QuietFolder};
 use std::alloc::{AllocError, Global};
@@ -182,6 +182,18 @@ fn programs_end(rt: HostRuntime) -> Result<(), Fail> {
         "pkfe: exited 38 after 5 steps\n",
     )?;
     Ok(())
+}
+
+#[test]
+fn a_linked_program_ends(rt: HostRuntime) -> Result<(), Fail> {
+    let alloc = rt.alloc();
+    let file = hello(alloc)?;
+    let line = "pkfe: exited 0 after 19 steps\n";
+    check(
+        &rt,
+        alloc,
+        &plain(&file, Answer::Exited(0), 0, b"Hello, world!\n", line),
+    )
 }
 
 #[test]

@@ -182,3 +182,64 @@ pub fn program(alloc: Global, code: &[u32]) -> Result<Vec<u8>, AllocError>
     }
     Ok(file)
 }
+
+/// Asks for the stat record of the console, grows its break by a page, writes what stands in its second segment, and ends
+/// with 0: addi sp, sp, -128; addi a0, x0, 1; addi a1, sp, 0; addi a7, x0, 80; ecall; addi a0, x0, 0; addi a7, x0, 214;
+/// ecall; lui a1, 1; add a0, a0, a1; ecall; addi a0, x0, 1; lui a1, 0x11; addi a2, x0, 14; addi a7, x0, 64; ecall; addi
+/// a0, x0, 0; addi a7, x0, 93; ecall
+const HELLO: [u32; 19] = [
+    0xf801_0113,
+    0x0010_0513,
+    0x0001_0593,
+    0x0500_0893,
+    0x0000_0073,
+    0x0000_0513,
+    0x0d60_0893,
+    0x0000_0073,
+    0x0000_15b7,
+    0x00b5_0533,
+    0x0000_0073,
+    0x0010_0513,
+    0x0001_15b7,
+    0x00e0_0613,
+    0x0400_0893,
+    0x0000_0073,
+    0x0000_0513,
+    0x05d0_0893,
+    0x0000_0073,
+];
+
+// Adds a program header: its type and flags, and the offset, the two addresses and the two sizes.
+fn push_header(
+    file: &mut Vec<u8>,
+    kind: u32,
+    flags: u32,
+    fields: &[u64],
+) -> Result<(), AllocError> {
+    file.extend_from_slice(&kind.to_le_bytes())?;
+    file.extend_from_slice(&flags.to_le_bytes())?;
+    for field in fields {
+        file.extend_from_slice(&field.to_le_bytes())?;
+    }
+    Ok(())
+}
+
+/// The file of a program as a linker makes it: two segments between headers of other types, the code behind the headers,
+/// and the second segment on a page of its own.
+pub fn hello(alloc: Global) -> Result<Vec<u8>, AllocError> {
+    let mut file = Vec::from_slice(alloc, &FRONT[..64])?;
+    file[24] = 0x20;
+    file[25] = 0x01;
+    file[56] = 4;
+    push_header(&mut file, 0x7000_0003, 0, &[0; 6])?;
+    push_header(&mut file, 1, 5, &[0, 0x1_0000, 0, 0x16c, 0x16c, 0])?;
+    push_header(&mut file, 1, 6, &[0x1000, 0x1_1000, 0, 14, 0x800, 0])?;
+    push_header(&mut file, 0x6474_e551, 0, &[0; 6])?;
+    for word in HELLO {
+        file.extend_from_slice(&word.to_le_bytes())?;
+    }
+    let gap: Vec<u8> = vec![in alloc; 0; 0x1000 - 0x16c]?;
+    file.extend_from_slice(&gap)?;
+    file.extend_from_slice(b"Hello, world!\n")?;
+    Ok(file)
+}
