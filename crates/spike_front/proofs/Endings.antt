@@ -6,22 +6,21 @@ use Rattle.fe_base.specs.Outside.{Rose}
 use Rattle.fe_base.specs.declared.outside.Sink as sink
 use Rattle.fe_base.specs.declared.outside.Source as source
 use Rattle.folder_tree.specs.Paths.{Parts}
-use Rattle.folder_tree.specs.Tree.{Tree, IsWellFormed}
+use Rattle.folder_tree.specs.Tree.{Tree}
 use Rattle.folder_tree.specs.TreeOps.{opened}
 use Rattle.folder_tree.specs.declared.folder.Folder as folder
-use Rattle.host_text.specs.World.{Contents, first_numbers}
+use Rattle.host_text.specs.World.{Contents}
 use Rattle.host_text.specs.declared.open_numbers.Open.{Open}
 use Rattle.syscall_proxy.specs.Kept.{Setting}
 use Rattle.syscall_proxy.specs.OpenFlags.{cuts}
 use Rattle.syscall_proxy.specs.Rows.{low, word}
-use Rattle.syscall_proxy.specs.Worlds.{IsWorldOf}
 use Rattle.plain_machine.specs.Asks.{Asked, the_folder, asks_by, asks_folder, asks_input, part_asks, part_cuts, puts_of, request_cuts, row_asks, step_asks, step_cuts, user_asks, user_cuts}
 use Rattle.plain_machine.specs.Direct.{DirectState, Machine, running, dying, ended, direct_after, direct_after-zero, status_of}
 use Rattle.plain_machine.specs.KernelPart.{Part, gives, breaks, posts, scans}
 use Rattle.plain_machine.specs.Outsides.{Outside}
 use Rattle.plain_machine.specs.Programs.{Process, part_of}
-use Rattle.plain_machine.specs.Stands.{HasFiles, HasRoomFor, IsAt, Leaves, NeverAsks, NeverPuts, PlainRan, PlainState, Spares, Tells, TreeStays, asks, end_opens, made}
-use Rattle.plain_machine.specs.Starts.{direct_start, first_machine, setting_of, state_after}
+use Rattle.plain_machine.specs.Stands.{HasFiles, HasRoomFor, IsAt, Leaves, NeverAsks, NeverPuts, PlainRan, PlainState, Spares, Tells, TreeStays, asks, end_opens, first_state, made}
+use Rattle.plain_machine.specs.Starts.{direct_start, setting_of, state_after}
 use Rattle.plain_machine.specs.UserStep.{UserStep, next, call, trap, user_step}
 use Rattle.plain_machine.specs.declared.plain.PlainFault.TheVariants.{FileFault as FileStop, InputFault as InputStop, ConsoleFault as ConsoleStop, OutOfMemory as MemoryStop}
 use Rattle.plain_machine.specs.declared.plain.PlainEnd.{PlainEnd}
@@ -200,13 +199,9 @@ module _ (c : RunCase) (old new : PlainState) (end : PlainEnd) (steps : ℕ) {in
         answers = subst IsRunAnswer (sym said) (run_answer c.limit end);
       }
 
--- no open number holds a file at the start, so a well-formed tree is one of a world
-pub first_world_of : (t : Tree) → IsWellFormed t → IsWorldOf first_numbers t
-first_world_of t formed = record { size = refl; tree = formed; opens = λ number. omega arith }
-
 -- a machine that was started stands at the direct start
 pub begun : (c : RunCase) (plain : PlainState) {input console : Option (List ℕ)} {tree : Option Tree}
-    → plain ≡ record { machine = first_machine c.start.image c.start.args; given = record { args = c.start.args; root = c.start.root }; numbers = first_numbers; steps = 0 }
+    → plain ≡ first_state c.start.image c.start.args c.start.root
     → Tells c.start.contents input console tree → IsAt (direct_start c.start) plain input console tree
 begun c plain is told = record {
   machine_is = ap (λ (p : PlainState). p.machine) is;

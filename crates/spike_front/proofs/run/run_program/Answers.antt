@@ -1,6 +1,5 @@
 use Rattle.std.proofs.Common.{◌≡◌, ◌↔◌, inr, inl, ℕ, max, None, refl, ap, sym, subst, ◌∙◌, arith}
 use Rattle.syscall_proxy.specs.Kept.{Setting}
-use Rattle.syscall_proxy.specs.Worlds.{IsWorldOf}
 use Rattle.plain_machine.specs.Asks.{asks_folder, asks_input, puts_of}
 use Rattle.plain_machine.specs.Direct.{status_of}
 use Rattle.plain_machine.specs.Stands.{PlainState, end_fault, made}
@@ -10,7 +9,7 @@ use Rattle.spike_front.specs.declared.answer.Answer.TheVariants.{OutOfMemory}
 use Rattle.spike_front.specs.Answers.{IsRunAnswer}
 use Rattle.spike_front.specs.Runs.{case_of}
 use Rattle.spike_front.proofs.Stages.{run_answer}
-use Rattle.spike_front.proofs.Endings.{asks_there, begun, console_back, file_back, first_world_of, input_back, made_all, memory_back, never_asked, never_put, plain_run, room_for, spent_back, stopped_run, stopped_timely}
+use Rattle.spike_front.proofs.Endings.{asks_there, begun, console_back, file_back, input_back, made_all, memory_back, never_asked, never_put, plain_run, room_for, spent_back, stopped_run, stopped_timely}
 use Rattle.spike_front.proofs.run.run_program.Goals as goal
 
 -- where there was no memory for the start
@@ -43,10 +42,10 @@ returns-clause-ran g c = λ contents told.
     let d = case_of c.args.image c.args.args.now c.args.root contents c.args.limit in
     let first = c.in-Ok.plain in
     let last = c.run-end.new.self in
-    let given : first.given ≡ setting_of d.start = ap (λ (p : PlainState). p.given) c.in-Ok.ensures in
-    let none : first.steps ≡ 0 = ap (λ (p : PlainState). p.steps) c.in-Ok.ensures in
+    let given : first.given ≡ setting_of d.start = ap (λ (p : PlainState). p.given) c.in-Ok.ensures.first in
+    let none : first.steps ≡ 0 = ap (λ (p : PlainState). p.steps) c.in-Ok.ensures.first in
     let most : max c.args.limit first.steps ≡ c.args.limit = omega (arith, none) in
-    plain_run d first last c.run-end.result c.steps.result given none c.steps.ensures (c.run-end.ensures.ran _ (begun d first c.in-Ok.ensures told)) c.answer_of.result c.answer_of.ensures
+    plain_run d first last c.run-end.result c.steps.result given none c.steps.ensures (c.run-end.ensures.ran _ (begun d first c.in-Ok.ensures.first told)) c.answer_of.result c.answer_of.ensures
     (subst (λ (n : ℕ). (c.run-end.result ≡ EndSpent) ↔ ((status_of last.machine ≡ None) × (last.steps ≡ n))) most c.run-end.ensures.spent)
     (omega (arith, c.run-end.ensures.within, none))
     c.run-end.ensures.input_asked
@@ -57,9 +56,9 @@ returns-clause-timely g c = λ contents told.
     let d = case_of c.args.image c.args.args.now c.args.root contents c.args.limit in
     let first = c.in-Ok.plain in
     let last = c.run-end.new.self in
-    let given : first.given ≡ setting_of d.start = ap (λ (p : PlainState). p.given) c.in-Ok.ensures in
-    let none : first.steps ≡ 0 = ap (λ (p : PlainState). p.steps) c.in-Ok.ensures in
-    let asked = asks_there d first last c.run-end.result c.steps.result given none c.steps.ensures (c.run-end.ensures.ran _ (begun d first c.in-Ok.ensures told)) in
+    let given : first.given ≡ setting_of d.start = ap (λ (p : PlainState). p.given) c.in-Ok.ensures.first in
+    let none : first.steps ≡ 0 = ap (λ (p : PlainState). p.steps) c.in-Ok.ensures.first in
+    let asked = asks_there d first last c.run-end.result c.steps.result given none c.steps.ensures (c.run-end.ensures.ran _ (begun d first c.in-Ok.ensures.first told)) in
     record {
       input_asked = λ h. sym (ap asks_input asked) ∙ c.run-end.ensures.input_asked (input_back c.args.limit c.run-end.result (sym c.answer_of.ensures ∙ h));
       console_asked = λ h puts. c.run-end.ensures.console_asked (console_back c.args.limit c.run-end.result (sym c.answer_of.ensures ∙ h)) (ap puts_of asked ∙ puts);
@@ -72,10 +71,10 @@ returns-clause-unasked g c = λ contents told.
     let d = case_of c.args.image c.args.args.now c.args.root contents c.args.limit in
     let first = c.in-Ok.plain in
     let last = c.run-end.new.self in
-    let given : first.given ≡ setting_of d.start = ap (λ (p : PlainState). p.given) c.in-Ok.ensures in
-    let none : first.steps ≡ 0 = ap (λ (p : PlainState). p.steps) c.in-Ok.ensures in
+    let given : first.given ≡ setting_of d.start = ap (λ (p : PlainState). p.given) c.in-Ok.ensures.first in
+    let none : first.steps ≡ 0 = ap (λ (p : PlainState). p.steps) c.in-Ok.ensures.first in
     let all : made first last ≡ c.steps.result = made_all first last c.steps.result none c.steps.ensures in
-    let at = begun d first c.in-Ok.ensures told in
+    let at = begun d first c.in-Ok.ensures.first told in
     record {
       input = λ never. c.run-end.ensures.input_untouched _ at (never_asked asks_input first.given (setting_of d.start) (made first last) c.steps.result (direct_start d.start) given all never);
       console = λ never. c.run-end.ensures.console_untouched _ at (never_put first.given (setting_of d.start) (made first last) c.steps.result (direct_start d.start) given all never);
@@ -86,10 +85,10 @@ returns-clause-suits g c = λ contents told steady room h.
     let d = case_of c.args.image c.args.args.now c.args.root contents c.args.limit in
     let first = c.in-Ok.plain in
     let last = c.run-end.new.self in
-    let given : first.given ≡ setting_of d.start = ap (λ (p : PlainState). p.given) c.in-Ok.ensures in
-    let none : first.steps ≡ 0 = ap (λ (p : PlainState). p.steps) c.in-Ok.ensures in
+    let given : first.given ≡ setting_of d.start = ap (λ (p : PlainState). p.given) c.in-Ok.ensures.first in
+    let none : first.steps ≡ 0 = ap (λ (p : PlainState). p.steps) c.in-Ok.ensures.first in
     let all : made first last ≡ c.steps.result = made_all first last c.steps.result none c.steps.ensures in
-    c.run-end.ensures.suits steady _ (begun d first c.in-Ok.ensures told)
+    c.run-end.ensures.suits steady _ (begun d first c.in-Ok.ensures.first told)
     (room_for _ first.given (setting_of d.start) (made first last) c.steps.result (direct_start d.start) given all room)
     (console_back c.args.limit c.run-end.result (sym c.answer_of.ensures ∙ h))
 
@@ -109,24 +108,24 @@ returns-clause-input_steady g c = λ steady h. c.run-end.ensures.called.input_ca
 
 pub returns-clause-file_steady : goal.returns-clause-file_steady
 returns-clause-file_steady g c = λ t formed told steady h.
-    let world = subst (λ n. IsWorldOf n t) (sym (ap (λ (p : PlainState). p.numbers) c.in-Ok.ensures)) (first_world_of t formed) in
+    let world = c.in-Ok.ensures.world t formed in
     c.run-end.ensures.in_world.folder_calm t told world steady (ap end_fault (file_back c.args.limit c.run-end.result (sym c.answer_of.ensures ∙ h)))
 
 pub returns-clause-formed : goal.returns-clause-formed
 returns-clause-formed g c = λ t formed told.
-    let world = subst (λ n. IsWorldOf n t) (sym (ap (λ (p : PlainState). p.numbers) c.in-Ok.ensures)) (first_world_of t formed) in
+    let world = c.in-Ok.ensures.world t formed in
     let now = c.run-end.ensures.in_world.world t told world in
     (now.0, now.1, now.2.tree)
 
 pub returns-clause-spent : goal.returns-clause-spent
 returns-clause-spent g c = λ n h.
     let first = c.in-Ok.plain in
-    let none : first.steps ≡ 0 = ap (λ (p : PlainState). p.steps) c.in-Ok.ensures in
+    let none : first.steps ≡ 0 = ap (λ (p : PlainState). p.steps) c.in-Ok.ensures.first in
     let both = spent_back c.args.limit c.run-end.result n (sym c.answer_of.ensures ∙ h) in
     let there = c.run-end.ensures.spent.0 both.0 in
     (both.1, omega (arith, none, both.1, there.1, c.steps.ensures))
 
 pub returns-clause-within : goal.returns-clause-within
 returns-clause-within g c =
-    let none : c.in-Ok.plain.steps ≡ 0 = ap (λ (p : PlainState). p.steps) c.in-Ok.ensures in
+    let none : c.in-Ok.plain.steps ≡ 0 = ap (λ (p : PlainState). p.steps) c.in-Ok.ensures.first in
     omega (arith, none, c.run-end.ensures.within, c.steps.ensures)
