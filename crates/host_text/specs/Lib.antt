@@ -1,5 +1,4 @@
--- What to believe: texts, what it is to follow one, the acts of the objects, the world, and what a text does over
--- told contents.
+-- What to believe: texts, what it is to follow one, the acts of the objects, the world, and what a text does over told contents.
 pub mod Text
 pub mod Played
 pub mod Outside
@@ -7,6 +6,7 @@ pub mod World
 pub mod Runs
 pub mod Shapes
 pub mod Leads
+pub mod Openings
 -- Laws of these definitions, which the clauses and proofs of crates above cite.
 pub mod Laws
 pub mod Ports
@@ -18,3 +18,4 @@ pub mod Blames
 pub mod Told
 pub mod Steady
 pub mod Streams
+pub mod SurePorts

@@ -1,4 +1,4 @@
--- What a text takes from the input and puts on the console, and where each put finds room.
+-- Which calls a text makes: what it takes from the input, puts on the console and asks of the folder.
 use Rattle.std.specs.Prelude.{◌≡◌, ◌≤◌, ◌-◌, ⊤, ℕ, Bool, true, false, List, length, Option, Some, None, Result, Ok, Err}
 use Rattle.std.specs.Prelude.{refl}
 use Rattle.std.proofs.Common.{sym, subst, ap, ◌∙◌}
@@ -8,11 +8,13 @@ use Rattle.fe_base.specs.declared.outside.Failed.{Failed}
 use Rattle.fe_base.specs.declared.outside.Source as source
 use Rattle.fe_base.specs.declared.outside.Sink as sink
 use Rattle.folder_tree.specs.declared.folder.Folder as folder
+use Rattle.folder_tree.specs.Paths.{Parts}
 use Rattle.folder_tree.specs.declared.folder.FolderStop.{FolderStop}
 use Rattle.host_text.specs.Text.{Query, Reply, row_of, Text, Done, Fail, Read, Write, Take, Put, Ask, Note, Look}
 use Rattle.host_text.specs.Played.{Acts, At, Played, ended, failed, has_read, read_stopped, has_written, write_stopped}
 use Rattle.host_text.specs.Played.{has_taken, take_stopped, has_put, put_stopped, has_asked, ask_stopped, noted, looked}
 use Rattle.host_text.specs.Outside.{HasRead, HasWritten, HasCalled, HasTaken, HasPut, acts}
+use Rattle.host_text.specs.Openings.{opens_at, by_path, ActsNext, OpensLast}
 use Rattle.host_text.specs.Shapes.{Stops, is_quiet, either, Ends, Closes, Shaped}
 
 -- told room, less what was put
@@ -32,55 +34,67 @@ PutsFit room (Ask q stop k) = (reply : Reply q) → PutsFit room (k reply)
 PutsFit room (Note g k) = PutsFit room k
 PutsFit {H = H} room (Look k) = (h : H) → PutsFit room (k h)
 
--- whatever it is answered, each take of the text is of so many bytes, and each put of such bytes, with such a fault
-abbrev pub EachStream : {H A E : Type 0} → (ℕ → Type 0) → (List ℕ → E → Type 0) → Text H A E → Type 0
-EachStream takes puts (Done a) = ⊤
-EachStream takes puts (Fail e) = ⊤
-EachStream takes puts (Read at count stop k) = (bytes : List ℕ) → length bytes ≡ count → EachStream takes puts (k bytes)
-EachStream takes puts (Write at bytes stop k) = EachStream takes puts k
-EachStream takes puts (Take count stop k) =
-    takes count × ((bytes : List ℕ) → length bytes ≤ count → EachStream takes puts (k bytes))
-EachStream takes puts (Put bytes stop k) = puts bytes stop × EachStream takes puts k
-EachStream takes puts (Ask q stop k) = (reply : Reply q) → EachStream takes puts (k reply)
-EachStream takes puts (Note g k) = EachStream takes puts k
-EachStream {H = H} takes puts (Look k) = (h : H) → EachStream takes puts (k h)
+-- whatever it is answered, each take of the text is of so many bytes, each put of such bytes, with such a fault, and the
+-- folder is asked such a thing
+abbrev pub EachCall : {H A E : Type 0} → (ℕ → Type 0) → (List ℕ → E → Type 0) → (Query → Type 0) → Text H A E → Type 0
+EachCall takes puts asks (Done a) = ⊤
+EachCall takes puts asks (Fail e) = ⊤
+EachCall takes puts asks (Read at count stop k) =
+    (bytes : List ℕ) → length bytes ≡ count → EachCall takes puts asks (k bytes)
+EachCall takes puts asks (Write at bytes stop k) = EachCall takes puts asks k
+EachCall takes puts asks (Take count stop k) =
+    takes count × ((bytes : List ℕ) → length bytes ≤ count → EachCall takes puts asks (k bytes))
+EachCall takes puts asks (Put bytes stop k) = puts bytes stop × EachCall takes puts asks k
+EachCall takes puts asks (Ask q stop k) = asks q × ((reply : Reply q) → EachCall takes puts asks (k reply))
+EachCall takes puts asks (Note g k) = EachCall takes puts asks k
+EachCall {H = H} takes puts asks (Look k) = (h : H) → EachCall takes puts asks (k h)
 
 -- the text puts nothing
 abbrev pub PutsNothing : {H A E : Type 0} → Text H A E → Type 0
-PutsNothing t = EachStream (λ count. ⊤) (λ bytes stop. ⊥) t
+PutsNothing t = EachCall (λ count. ⊤) (λ bytes stop. ⊥) (λ q. ⊤) t
 
 -- the text takes nothing
 abbrev pub TakesNothing : {H A E : Type 0} → Text H A E → Type 0
-TakesNothing t = EachStream (λ count. ⊥) (λ bytes stop. ⊤) t
+TakesNothing t = EachCall (λ count. ⊥) (λ bytes stop. ⊤) (λ q. ⊤) t
 
--- the text does neither
-abbrev pub IsSilent : {H A E : Type 0} → Text H A E → Type 0
-IsSilent t = EachStream (λ count. ⊥) (λ bytes stop. ⊥) t
+-- the text asks the folder nothing
+abbrev pub AsksNothing : {H A E : Type 0} → Text H A E → Type 0
+AsksNothing t = EachCall (λ count. ⊤) (λ bytes stop. ⊤) (λ q. ⊥) t
 
-module _ {H A E : Type 0} (takes others : ℕ → Type 0) (puts more : List ℕ → E → Type 0)
+-- the text opens no file that stands in the folder
+abbrev pub OpensNothing : {H A E : Type 0} → Text H A E → Type 0
+OpensNothing t = EachCall (λ count. ⊤) (λ bytes stop. ⊤) (λ q. opens_at q ≡ None) t
+
+module _ {H A E : Type 0} (takes others : ℕ → Type 0) (puts more : List ℕ → E → Type 0) (asks most : Query → Type 0)
     (take : (count : ℕ) → takes count → others count)
-    (put : (bytes : List ℕ) (stop : E) → puts bytes stop → more bytes stop) where
-  -- what holds of each take and put of a text, and so something else
-  pub each-also : (t : Text H A E) → EachStream takes puts t → EachStream others more t
+    (put : (bytes : List ℕ) (stop : E) → puts bytes stop → more bytes stop)
+    (ask : (q : Query) → asks q → most q) where
+  -- what holds of each call of a text, and so something else
+  pub each-also : (t : Text H A E) → EachCall takes puts asks t → EachCall others more most t
   each-also (Done a) h = tt
   each-also (Fail e) h = tt
   each-also (Read at count stop k) h = λ bytes size. each-also (k bytes) (h bytes size)
   each-also (Write at bytes stop k) h = each-also k h
   each-also (Take count stop k) h = (take count h.0, λ bytes size. each-also (k bytes) (h.1 bytes size))
   each-also (Put bytes stop k) h = (put bytes stop h.0, each-also k h.1)
-  each-also (Ask q stop k) h = λ reply. each-also (k reply) (h reply)
+  each-also (Ask q stop k) h = (ask q h.0, λ reply. each-also (k reply) (h.1 reply))
   each-also (Note g k) h = each-also k h
   each-also (Look k) h = λ kept. each-also (k kept) (h kept)
 
--- what does neither, puts nothing
-pub silent-puts : {H A E : Type 0} (t : Text H A E) → IsSilent t → PutsNothing t
-silent-puts t h = each-also (λ count. ⊥) (λ count. ⊤) (λ bytes stop. ⊥) (λ bytes stop. ⊥) (λ count never. tt)
-    (λ bytes stop never. never) t h
-
--- and takes nothing
-pub silent-takes : {H A E : Type 0} (t : Text H A E) → IsSilent t → TakesNothing t
-silent-takes t h = each-also (λ count. ⊥) (λ count. ⊥) (λ bytes stop. ⊥) (λ bytes stop. ⊤) (λ count never. never)
-    (λ bytes stop never. tt) t h
+-- a text that opens nothing does so last
+pub nothing-last : {H A E : Type 0} (may : Parts → Type 0) (t : Text H A E) → OpensNothing t → OpensLast may t
+nothing-last may (Done a) h = tt
+nothing-last may (Fail e) h = tt
+nothing-last may (Read at count stop k) h = λ bytes size. nothing-last may (k bytes) (h bytes size)
+nothing-last may (Write at bytes stop k) h = nothing-last may k h
+nothing-last may (Take count stop k) h = λ bytes size. nothing-last may (k bytes) (h.1 bytes size)
+nothing-last may (Put bytes stop k) h = nothing-last may k h.1
+nothing-last {A = A} {E = E} may (Ask q stop k) h =
+    let P : Option Parts → Type 0 = λ o. by_path o (λ path. (reply : Reply q) → ActsNext (may path) (k reply))
+    ((reply : Reply q) → OpensLast may (k reply)) in
+    subst P (sym h.0) (λ reply. nothing-last may (k reply) (h.1 reply))
+nothing-last may (Note g k) h = nothing-last may k h
+nothing-last may (Look k) h = λ kept. nothing-last may (k kept) (h kept)
 
 -- what puts nothing has room
 pub nothing-fits : {H A E : Type 0} (room : Option ℕ) (t : Text H A E) → PutsNothing t → PutsFit room t
@@ -90,14 +104,14 @@ nothing-fits room (Read at count stop k) h = λ bytes size. nothing-fits room (k
 nothing-fits room (Write at bytes stop k) h = nothing-fits room k h
 nothing-fits room (Take count stop k) h = λ bytes size. nothing-fits room (k bytes) (h.1 bytes size)
 nothing-fits room (Put bytes stop k) h = absurd h.0
-nothing-fits room (Ask q stop k) h = λ reply. nothing-fits room (k reply) (h reply)
+nothing-fits room (Ask q stop k) h = λ reply. nothing-fits room (k reply) (h.1 reply)
 nothing-fits room (Note g k) h = nothing-fits room k h
 nothing-fits room (Look k) h = λ kept. nothing-fits room (k kept) (h kept)
 
 module _ {H A E : Type 0} (z : Stops E) (marks : (H → H) → Type 0) (answers : A → Type 0) where
   -- a put is refused by the fault of the console
   abbrev pub Named : Text H A E → Type 0
-  Named t = EachStream (λ count. ⊤) (λ bytes stop. stop ≡ z.console) t
+  Named t = EachCall (λ count. ⊤) (λ bytes stop. stop ≡ z.console) (λ q. ⊤) t
 
   ends-puts : (t : Text H A E) → Ends z marks answers t → Named t
   ends-puts (Done a) shape = tt
@@ -129,55 +143,57 @@ module _ {H A E : Type 0} (z : Stops E) (marks : (H → H) → Type 0) (answers 
   shaped-puts (Write at bytes stop k) shape = absurd shape
   shaped-puts (Take count stop k) shape = (tt, λ bytes size. closes-puts (k bytes) (shape.1 bytes))
   shaped-puts (Put bytes stop k) shape = (shape.0, closes-puts k shape.1)
-  shaped-puts (Ask q stop k) shape =
-      λ reply.
-      elim (is_quiet q) as (λ b. either b ((a : Reply q) → Shaped z marks answers (k a))
-      ((a : Reply q) → Closes z marks answers (k a))
-      → Named (k reply)) [
-        | true ↦ λ more. shaped-puts (k reply) (more reply)
-        | false ↦ λ more. closes-puts
-            (k reply) (more reply)
-      ] shape.1
+  shaped-puts (Ask q stop k) shape = (
+    tt,
+    λ reply. elim (is_quiet q) as (λ b.
+        either b ((a : Reply q) → Shaped z marks answers (k a)) ((a : Reply q) → Closes z marks answers (k a))
+        → Named (k reply)) [
+          | true ↦ λ more. shaped-puts (k reply) (more reply)
+          | false ↦ λ more. closes-puts (k reply) (more reply)
+        ] shape.1,
+  )
   shaped-puts (Note g k) shape = ends-puts k shape.1
   shaped-puts (Look k) shape = absurd shape
 
--- a text that puts nothing leaves the console, whatever the objects are
-pub unput : {P F I C H A E : Type 0} (p : port.Ghosts P) (f : folder.Ghosts F) (i : source.Ghosts I)
-    (c : sink.Ghosts C) {t : Text H A E} {s s' : At P F I C H} {r : Result A E} → PutsNothing t
-    → Played (acts p f i c) t s r s' → s'.console ≡ s.console
-unput p f i c h (ended e same) = ap (λ m. m.console) same
-unput p f i c h (failed e same) = ap (λ m. m.console) same
-unput p f i c h (has_read {bytes = bytes} d next) = unput p f i c (h bytes d.bytes) next
-unput p f i c h (read_stopped d e same) = ap (λ m. m.console) same
-unput p f i c h (has_written d next) = unput p f i c h next
-unput p f i c h (write_stopped d e same) = ap (λ m. m.console) same
-unput p f i c h (has_taken {bytes = bytes} d next) = unput p f i c (h.1 bytes d.bound) next
-unput p f i c h (take_stopped d e same) = ap (λ m. m.console) same
-unput p f i c h (has_put d next) = absurd h.0
-unput p f i c h (put_stopped d e same) = absurd h.0
-unput p f i c h (has_asked {reply = reply} d next) = unput p f i c (h reply) next
-unput p f i c h (ask_stopped d e same) = ap (λ m. m.console) same
-unput p f i c h (noted n next) = unput p f i c h next
-unput p f i c h (looked {s = s} next) = unput p f i c (h s.kept) next
+-- the acts of a text whose takes, puts and questions are all of these
+abbrev pub only : {X F I C : Type 0} → Acts X F I C → (ℕ → Type 0) → (List ℕ → Type 0) → (Query → Type 0) → Acts X F I C
+only o takes puts asks = record {
+  read = λ x place count r x'. o.read x place count r x';
+  write = λ x place bytes r x'. o.write x place bytes r x';
+  ask = λ q x r x'. asks q × o.ask q x r x';
+  take = λ x count r x'. takes count × o.take x count r x';
+  put = λ x bytes r x'. puts bytes × o.put x bytes r x';
+}
 
--- and one that takes nothing leaves the input
-pub untaken : {P F I C H A E : Type 0} (p : port.Ghosts P) (f : folder.Ghosts F) (i : source.Ghosts I)
-    (c : sink.Ghosts C) {t : Text H A E} {s s' : At P F I C H} {r : Result A E} → TakesNothing t
-    → Played (acts p f i c) t s r s' → s'.input ≡ s.input
-untaken p f i c h (ended e same) = ap (λ m. m.input) same
-untaken p f i c h (failed e same) = ap (λ m. m.input) same
-untaken p f i c h (has_read {bytes = bytes} d next) = untaken p f i c (h bytes d.bytes) next
-untaken p f i c h (read_stopped d e same) = ap (λ m. m.input) same
-untaken p f i c h (has_written d next) = untaken p f i c h next
-untaken p f i c h (write_stopped d e same) = ap (λ m. m.input) same
-untaken p f i c h (has_taken d next) = absurd h.0
-untaken p f i c h (take_stopped d e same) = absurd h.0
-untaken p f i c h (has_put d next) = untaken p f i c h.1 next
-untaken p f i c h (put_stopped d e same) = ap (λ m. m.input) same
-untaken p f i c h (has_asked {reply = reply} d next) = untaken p f i c (h reply) next
-untaken p f i c h (ask_stopped d e same) = ap (λ m. m.input) same
-untaken p f i c h (noted n next) = untaken p f i c h next
-untaken p f i c h (looked {s = s} next) = untaken p f i c (h s.kept) next
+-- a text with such calls is followed over such acts; a read gives as many bytes as were asked for, a take no more
+module _ {X F I C H A E : Type 0} (o : Acts X F I C) (takes : ℕ → Type 0) (puts : List ℕ → Type 0)
+    (asks : Query → Type 0)
+    (on_read : (x x' : X) (place count : ℕ) (bytes : List ℕ) → o.read x place count (Ok bytes) x' → length bytes
+    ≡ count)
+    (on_take : (x x' : I) (count : ℕ) (bytes : List ℕ) → o.take x count (Ok bytes) x' → length bytes ≤ count) where
+  abbrev pub Such : Text H A E → Type 0
+  Such t = EachCall takes (λ bytes stop. puts bytes) asks t
+
+  abbrev pub Kept : Text H A E → At X F I C H → Result A E → At X F I C H → Type 0
+  Kept t s r s' = Played (only o takes puts asks) t s r s'
+
+  pub only-played : {t : Text H A E} {s s' : At X F I C H} {r : Result A E} → Such t → Played o t s r s' → Kept t s r s'
+  only-played h (ended e same) = ended e same
+  only-played h (failed e same) = failed e same
+  only-played h (has_read {place = at} {count = count} {s = s} {x = x} {bytes = bytes} d next) =
+      has_read d (only-played (h bytes (on_read s.port x at count bytes d)) next)
+  only-played h (read_stopped d e same) = read_stopped d e same
+  only-played h (has_written d next) = has_written d (only-played h next)
+  only-played h (write_stopped d e same) = write_stopped d e same
+  only-played h (has_taken {count = count} {s = s} {i = x} {bytes = bytes} d next) =
+      has_taken (h.0, d) (only-played (h.1 bytes (on_take s.input x count bytes d)) next)
+  only-played h (take_stopped d e same) = take_stopped (h.0, d) e same
+  only-played h (has_put d next) = has_put (h.0, d) (only-played h.1 next)
+  only-played h (put_stopped d e same) = put_stopped (h.0, d) e same
+  only-played h (has_asked {reply = reply} d next) = has_asked (h.0, d) (only-played (h.1 reply) next)
+  only-played h (ask_stopped d e same) = ask_stopped (h.0, d) e same
+  only-played h (noted n next) = noted n (only-played h next)
+  only-played h (looked {s = s} next) = looked (only-played (h s.kept) next)
 
 module _ {P F I C : Type 0} (p : port.Ghosts P) (f : folder.Ghosts F) (i : source.Ghosts I) (c : sink.Ghosts C) where
   -- a put that the console has room for
@@ -230,7 +246,8 @@ module _ {P F I C : Type 0} (p : port.Ghosts P) (f : folder.Ghosts F) (i : sourc
 
   -- where a text's puts are refused by a fault that it did not end with, each put was carried out, and so suited
   pub done-played : {H A E : Type 0} (fault : E) {t : Text H A E} {s s' : At P F I C H} {r : Result A E}
-      → (r ≡ Err fault → ⊥) → EachStream (λ count. ⊤) (λ bytes stop. stop ≡ fault) t → Played (acts p f i c) t s r s'
+      → (r ≡ Err fault → ⊥) → EachCall (λ count. ⊤) (λ bytes stop. stop ≡ fault) (λ q. ⊤) t
+      → Played (acts p f i c) t s r s'
       → Played suited_acts t s r s'
   done-played fault spared h (ended e same) = ended e same
   done-played fault spared h (failed e same) = failed e same
@@ -246,7 +263,8 @@ module _ {P F I C : Type 0} (p : port.Ghosts P) (f : folder.Ghosts F) (i : sourc
       has_put (record { put = d; suits = had-room s.console x bytes (c.room s.console) refl d })
       (done-played fault spared h.1 next)
   done-played fault spared h (put_stopped d e same) = absurd (spared (e ∙ ap Err h.0))
-  done-played fault spared h (has_asked {reply = reply} d next) = has_asked d (done-played fault spared (h reply) next)
+  done-played fault spared h (has_asked {reply = reply} d next) =
+      has_asked d (done-played fault spared (h.1 reply) next)
   done-played fault spared h (ask_stopped d e same) = ask_stopped d e same
   done-played fault spared h (noted n next) = noted n (done-played fault spared h next)
   done-played fault spared h (looked {s = s} next) = looked (done-played fault spared (h s.kept) next)

@@ -7,6 +7,7 @@ use Rattle.chunk_memory.specs.declared.port.ChunkPort as port
 use Rattle.fe_base.specs.declared.outside.Failed.{Failed}
 use Rattle.fe_base.specs.declared.outside.Source as source
 use Rattle.fe_base.specs.declared.outside.Sink as sink
+use Rattle.folder_tree.specs.Paths.{Parts}
 use Rattle.folder_tree.specs.Tree.{Tree, files_of, opens_of, bytes_of, number_at}
 use Rattle.folder_tree.specs.TreeOps.{After, open_number, opened}
 use Rattle.folder_tree.specs.Answers.{AnsweredBy}
@@ -15,7 +16,10 @@ use Rattle.folder_tree.specs.declared.folder.FolderStop.TheVariants.{Failed as B
 use Rattle.folder_tree.specs.declared.folder.Folder as folder
 use Rattle.host_text.specs.Text.{Query, Reply, row_of, Text, Kind, OpenFile, Create, Release, Size, ReadAt, WriteAt}
 use Rattle.host_text.specs.Text.{SetSize, Remove, MakeDir, RemoveDir}
-use Rattle.host_text.specs.Played.{Acts, At, Played}
+use Rattle.host_text.specs.Played.{Acts, At, Played, ended, failed, has_read, read_stopped, has_written, write_stopped}
+use Rattle.host_text.specs.Played.{has_taken, take_stopped, has_put, put_stopped, has_asked, ask_stopped, noted, looked}
+use Rattle.host_text.specs.Openings.{OpensLast}
+use Rattle.host_text.specs.Refusals.{Late, Unacted, refused}
 use Rattle.host_text.specs.Outside.{HasRead, HasWritten, HasCalled, HasTaken, HasPut, acts}
 use Rattle.host_text.specs.Runs.{Place, Bytes, End, run, Ties, Within}
 use Rattle.host_text.specs.RunLaws.{came, reply-fits}
@@ -94,3 +98,76 @@ module _ {P F I C M H : Type 0} (p : port.Ghosts P) (f : folder.Ghosts F) (i : s
       (λ x x' left count bytes told d. let got = d.bytes left told in (got.0, got.1, d.bound))
       (λ x x' held bytes told d. d.bytes held told)
       a w e inside h ties
+
+-- ---- ranges that are known
+
+module _ {P F I C : Type 0} (p : port.Ghosts P) (f : folder.Ghosts F) (i : source.Ghosts I) (c : sink.Ghosts C)
+    (fits : ℕ → ℕ → Type 0) where
+  -- the acts of these objects, where each range is one of these
+  abbrev pub inside_acts : Acts P F I C
+  inside_acts = record {
+    read = λ x place count r x'. fits place count × HasRead p x x' place count r;
+    write = λ x place bytes r x'. fits place (length bytes) × HasWritten p x x' place bytes r;
+    ask = λ q x r x'. HasCalled f x x' (row_of q) r;
+    take = λ x count r x'. HasTaken i x x' count r;
+    put = λ x bytes r x'. HasPut c x x' bytes r;
+  }
+
+  -- over a told tree, a text that keeps to these ranges is followed so
+  pub inside-played : {H A E : Type 0} {t : Text H A E} {s s' : At P F I C H} {r : Result A E} (tree : Tree)
+      → f.tree s.folder ≡ Some tree → Within fits t → Played (acts p f i c) t s r s' → Played inside_acts t s r s'
+  inside-played tree told h (ended e same) = ended e same
+  inside-played tree told h (failed e same) = failed e same
+  inside-played tree told h (has_read {bytes = bytes} d next) =
+      has_read (h.0, d) (inside-played tree told (h.1 bytes d.bytes) next)
+  inside-played tree told h (read_stopped d e same) = read_stopped (h.0, d) e same
+  inside-played tree told h (has_written d next) = has_written (h.0, d) (inside-played tree told h.1 next)
+  inside-played tree told h (write_stopped d e same) = write_stopped (h.0, d) e same
+  inside-played tree told h (has_taken {bytes = bytes} d next) =
+      has_taken d (inside-played tree told (h bytes d.bound) next)
+  inside-played tree told h (take_stopped d e same) = take_stopped d e same
+  inside-played tree told h (has_put d next) = has_put d (inside-played tree told h next)
+  inside-played tree told h (put_stopped d e same) = put_stopped d e same
+  inside-played tree told h (has_asked {q = q} {reply = reply} d next) =
+      let a = d.tree tree told in
+      has_asked d (inside-played a.0 a.2 (h reply (reply-fits q tree reply a.0 a.1)) next)
+  inside-played tree told h (ask_stopped d e same) = ask_stopped d e same
+  inside-played tree told h (noted n next) = noted n (inside-played tree told h next)
+  inside-played tree told h (looked {s = s} next) = looked (inside-played tree told (h s.kept) next)
+
+-- ---- refusals
+
+module _ {P F I C M H : Type 0} (p : port.Ghosts P) (f : folder.Ghosts F) (i : source.Ghosts I) (c : sink.Ghosts C)
+    (m : Bytes M) (fits : ℕ → ℕ → Type 0) (memory left : P → M → Type 0)
+    (on_read : (x x' : P) (t : M) (at count : ℕ) (bytes : List ℕ) → fits at count → memory x t
+    → HasRead p x x' at count (Ok bytes) → memory x' t × (bytes ≡ m.get t at count))
+    (on_write : (x x' : P) (t : M) (at : ℕ) (bytes : List ℕ) → fits at (length bytes) → memory x t
+    → HasWritten p x x' at bytes (Ok tt) → memory x' (m.set t at bytes))
+    (held : (x : P) (t : M) → memory x t → left x t)
+    (off_read : (x x' : P) (t : M) (at count : ℕ) (why : MemStop) → fits at count → memory x t
+    → HasRead p x x' at count (Err why) → left x' t)
+    (off_write : (x x' : P) (t : M) (at : ℕ) (bytes : List ℕ) (why : MemStop) → fits at (length bytes) → memory x t
+    → HasWritten p x x' at bytes (Err why) → left x' t) where
+  -- a text of the shape that is refused over objects that tell a place
+  pub told-refused : {A E : Type 0} {t : Text H A E} {s s' : At P F I C H} {r : Result A E} (z : Stops E)
+      (marks : (H → H) → Type 0) (answers : A → Type 0) (may : Parts → Type 0) (e : E) (w : Place M H) → r ≡ Err e
+      → Shaped z marks answers t → OpensLast may t → Within fits t
+      → Ties memory (λ x t. f.tree x ≡ Some t) (λ x left. i.left x ≡ Some left) (λ x held. c.held x ≡ Some held) s w
+      → Played (acts p f i c) t s r s'
+      → Unacted left (λ x t. f.tree x ≡ Some t) (λ x left. i.left x ≡ Some left)
+      (λ x held. c.held x ≡ Some held) may s' w
+      ⊎ Late left (λ x t. f.tree x ≡ Some t) (λ x left. i.left x ≡ Some left)
+      (λ x held. c.held x ≡ Some held) m z answers
+      t w s' e
+  told-refused z marks answers may e w h shape last inside ties played =
+      refused (acts p f i c) m fits memory (λ x t. f.tree x ≡ Some t) (λ x left. i.left x ≡ Some left)
+      (λ x held. c.held x ≡ Some held)
+      (λ x x' t at count bytes fit told d. let got = on_read x x' t at count bytes fit told d in
+      (got.0, got.1, d.bytes))
+      on_write
+      (λ x x' t q reply told d. let h = d.tree t told in (h.0, h.1, h.2, reply-fits q t reply h.0 h.1))
+      (λ x x' left count bytes told d. let got = d.bytes left told in (got.0, got.1, d.bound))
+      (λ x x' held bytes told d. d.bytes held told) z marks answers left may held off_read off_write
+      (λ x x' t q why told d. refused-tree t (f.tree x') (row_of q t) why (d.tree t told))
+      (λ x x' was count why told d. d.bytes was told) (λ x x' was bytes why told d. d.bytes was told) e w h shape last
+      inside ties played

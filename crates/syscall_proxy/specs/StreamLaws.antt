@@ -1,5 +1,5 @@
--- What a call says of the input and of the console, by the laws of texts.
-use Rattle.std.specs.Prelude.{◌≡◌, ⊤, ℕ, List, length, Option, Result, Ok, Err, IsOk, refl}
+-- What a call says of the input, of the console and of a folder that it asks nothing, by the laws of texts.
+use Rattle.std.specs.Prelude.{◌≡◌, ⊤, ℕ, Bool, true, false, List, length, Option, Result, Ok, Err, IsOk, refl}
 use Rattle.std.proofs.Common.{sym, subst, ap, ◌∙◌}
 use Rattle.chunk_memory.specs.declared.port.ChunkPort as port
 use Rattle.chunk_memory.specs.declared.stops.MemStop.{MemStop}
@@ -14,18 +14,18 @@ use Rattle.host_text.specs.Blames.{Blames, port_to, folder_to, input_to, console
 use Rattle.host_text.specs.Causes.{Later, played-later}
 use Rattle.host_text.specs.Outside.{HasTaken, HasPut, acts}
 use Rattle.host_text.specs.Played.{Acts, At, Played}
-use Rattle.host_text.specs.Streams.{PutsSuited, suited_acts, fits-played, done-played, shaped-puts, unput, untaken}
+use Rattle.host_text.specs.Streams.{PutsSuited, only, only-played, suited_acts, fits-played, done-played, shaped-puts}
 use Rattle.host_text.specs.declared.open_numbers.Open.{Open}
 use Rattle.syscall_proxy.specs.CallLaws.{call_row-row}
 use Rattle.syscall_proxy.specs.CallTable.{call_row}
 use Rattle.syscall_proxy.specs.Kept.{Kept, Setting}
 use Rattle.syscall_proxy.specs.RowShapes.{stops, Marks, IsResult}
 use Rattle.syscall_proxy.specs.Rows.{folder_fault}
-use Rattle.syscall_proxy.specs.StreamRows.{call_row-fits, call_row-puts, call_row-takes}
-use Rattle.syscall_proxy.specs.Streams.{call_puts, call_takes}
+use Rattle.syscall_proxy.specs.StreamRows.{call_row-asks, call_row-fits, call_row-puts, call_row-takes}
+use Rattle.syscall_proxy.specs.Streams.{call_asks, call_puts, call_takes}
 use Rattle.syscall_proxy.specs.declared.answers.CallAnswer.{CallAnswer}
 use Rattle.syscall_proxy.specs.declared.answers.CallFault.{CallFault}
-use Rattle.syscall_proxy.specs.declared.answers.CallFault.TheVariants.{InputFault, ConsoleFault}
+use Rattle.syscall_proxy.specs.declared.answers.CallFault.TheVariants.{FileFault, InputFault, ConsoleFault, OutOfMemory}
 
 -- what is done is not refused
 refused-done : (T : Type 0) {E : Type 0} (r : Result T E) (why : E) → r ≡ Err why → IsOk r → ⊥
@@ -75,11 +75,31 @@ module _ {P F I C : Type 0} (p : port.Ghosts P) (f : folder.Ghosts F) (i : sourc
       let stays = later.input steady in
       (λ e. blames-steady-input steady (blame e), stays.0, stays.1)
 
-  -- a call that asks the input for nothing leaves it
+  -- a call that asks the input for nothing leaves it, and has no InputFault
   pub call-untaken : {s s' : At P F I C Kept} {r : Result CallAnswer CallFault} (given : Setting) (numbers : List Open)
       (request : List ℕ) → call_takes numbers request ≡ 0
-      → Played (acts p f i c) (call_row given numbers request) s r s' → s'.input ≡ s.input
-  call-untaken given numbers request none played = untaken p f i c (call_row-takes given numbers request none) played
+      → Played (acts p f i c) (call_row given numbers request) s r s'
+      → (s'.input ≡ s.input) × (r ≡ Err InputFault → ⊥)
+  call-untaken {s = s} {s' = s'} {r = r} given numbers request none played =
+      let o = only (acts p f i c) (λ count. ⊥) (λ bytes. ⊤) (λ q. ⊤) in
+      let narrow = only-played (acts p f i c) (λ count. ⊥) (λ bytes. ⊤) (λ q. ⊤) (λ x x' at count bytes d. d.bytes)
+      (λ x x' count bytes d. d.bound) (call_row-takes given numbers request none) played in
+      let later = played-later o (λ x x'. ⊤) (λ x x'. ⊤) (λ x x'. x' ≡ x) (λ x x'. ⊤) (λ x. tt) (λ x. tt) (λ x. refl)
+      (λ x. tt) (λ x y w a b. tt) (λ x y w a b. tt) (λ x y w a b. b ∙ a) (λ x y w a b. tt)
+      (λ x y at count q d. tt) (λ x y at bytes q d. tt) (λ q x y q' d. tt) (λ x y count q d. absurd d.0)
+      (λ x y bytes q d. tt) narrow in
+      let blame = λ (e : r ≡ Err InputFault). shaped-blame o stops Marks IsResult (λ why x x'. ⊤) (λ why x x'. ⊤)
+      (λ x x'. ⊥) (λ x x'. ⊤) (λ x y at count why d. tt) (λ x y at bytes why d. tt) (λ q x y why d. tt)
+      (λ x y count why d. d.0) (λ x y bytes why d. tt) (λ x y w at count bytes why d b. tt)
+      (λ x y w at bytes why d b. tt) (λ q x y w reply why d b. tt) (λ x y w count bytes d b. b)
+      (λ x y w bytes d b. tt) InputFault e (call_row-row given numbers request) narrow in
+      (later.input, λ e. no-input-blame (blame e)) where
+        no-input-blame : {X F I C : Type 0} {s s' : At X F I C Kept}
+            → Blames stops (λ why x x'. ⊤) (λ why x x'. ⊤) (λ x x'. ⊥) (λ x x'. ⊤) InputFault s s' → ⊥
+        no-input-blame (port_to why e b) = let no : ⊥ = cc in no
+        no-input-blame (folder_to why e b) = no_input why e
+        no-input-blame (input_to e b) = b
+        no-input-blame (console_to e b) = let no : ⊥ = cc in no
 
   -- ---- the console
 
@@ -155,8 +175,62 @@ module _ {P F I C : Type 0} (p : port.Ghosts P) (f : folder.Ghosts F) (i : sourc
       (λ x y bytes q d. d.capacity) played in
       later.console
 
-  -- a call that has no bytes for the console leaves it
+  -- a call that has no bytes for the console leaves it, and has no ConsoleFault
   pub call-unput : {s s' : At P F I C Kept} {r : Result CallAnswer CallFault} (given : Setting) (numbers : List Open)
-      (request : List ℕ) → call_puts numbers request ≡ 0
-      → Played (acts p f i c) (call_row given numbers request) s r s' → s'.console ≡ s.console
-  call-unput given numbers request none played = unput p f i c (call_row-puts given numbers request none) played
+      (request : List ℕ) → call_puts numbers request ≡ 0 → Played (acts p f i c) (call_row given numbers request) s r s'
+      → (s'.console ≡ s.console) × (r ≡ Err ConsoleFault → ⊥)
+  call-unput {s = s} {s' = s'} {r = r} given numbers request none played =
+      let o = only (acts p f i c) (λ count. ⊤) (λ bytes. ⊥) (λ q. ⊤) in
+      let narrow = only-played (acts p f i c) (λ count. ⊤) (λ bytes. ⊥) (λ q. ⊤) (λ x x' at count bytes d. d.bytes)
+      (λ x x' count bytes d. d.bound) (call_row-puts given numbers request none) played in
+      let later = played-later o (λ x x'. ⊤) (λ x x'. ⊤) (λ x x'. ⊤) (λ x x'. x' ≡ x) (λ x. tt) (λ x. tt) (λ x. tt)
+      (λ x. refl) (λ x y w a b. tt) (λ x y w a b. tt) (λ x y w a b. tt) (λ x y w a b. b ∙ a)
+      (λ x y at count q d. tt) (λ x y at bytes q d. tt) (λ q x y q' d. tt) (λ x y count q d. tt)
+      (λ x y bytes q d. absurd d.0) narrow in
+      let blame = λ (e : r ≡ Err ConsoleFault). shaped-blame o stops Marks IsResult (λ why x x'. ⊤) (λ why x x'. ⊤)
+      (λ x x'. ⊤) (λ x x'. ⊥) (λ x y at count why d. tt) (λ x y at bytes why d. tt) (λ q x y why d. tt)
+      (λ x y count why d. tt) (λ x y bytes why d. d.0) (λ x y w at count bytes why d b. tt)
+      (λ x y w at bytes why d b. tt) (λ q x y w reply why d b. tt) (λ x y w count bytes d b. tt)
+      (λ x y w bytes d b. b) ConsoleFault e (call_row-row given numbers request) narrow in
+      (later.console, λ e. no-console-blame (blame e)) where
+        no-console-blame : {X F I C : Type 0} {s s' : At X F I C Kept}
+            → Blames stops (λ why x x'. ⊤) (λ why x x'. ⊤) (λ x x'. ⊤) (λ x x'. ⊥) ConsoleFault s s' → ⊥
+        no-console-blame (port_to why e b) = let no : ⊥ = cc in no
+        no-console-blame (folder_to why e b) = no_console why e
+        no-console-blame (input_to e b) = let no : ⊥ = cc in no
+        no-console-blame (console_to e b) = b
+
+  -- ---- the folder
+
+  -- a call that asks the folder nothing leaves it, and has neither FileFault nor OutOfMemory
+  pub call-unasked : {s s' : At P F I C Kept} {r : Result CallAnswer CallFault} (given : Setting) (numbers : List Open)
+      (request : List ℕ) → call_asks numbers request ≡ false
+      → Played (acts p f i c) (call_row given numbers request) s r s'
+      → (s'.folder ≡ s.folder) × (r ≡ Err FileFault → ⊥) × (r ≡ Err OutOfMemory → ⊥)
+  call-unasked {s = s} {s' = s'} {r = r} given numbers request none played =
+      let o = only (acts p f i c) (λ count. ⊤) (λ bytes. ⊤) (λ q. ⊥) in
+      let narrow = only-played (acts p f i c) (λ count. ⊤) (λ bytes. ⊤) (λ q. ⊥) (λ x x' at count bytes d. d.bytes)
+      (λ x x' count bytes d. d.bound) (call_row-asks given numbers request none) played in
+      let later = played-later o (λ x x'. ⊤) (λ x x'. x' ≡ x) (λ x x'. ⊤) (λ x x'. ⊤) (λ x. tt) (λ x. refl) (λ x. tt)
+      (λ x. tt) (λ x y w a b. tt) (λ x y w a b. b ∙ a) (λ x y w a b. tt) (λ x y w a b. tt)
+      (λ x y at count q d. tt) (λ x y at bytes q d. tt) (λ q x y q' d. absurd d.0) (λ x y count q d. tt)
+      (λ x y bytes q d. tt) narrow in
+      let blame = λ (fault : CallFault) (e : r ≡ Err fault). shaped-blame o stops Marks IsResult (λ why x x'. ⊤)
+      (λ why x x'. ⊥) (λ x x'. ⊤) (λ x x'. ⊤) (λ x y at count why d. tt) (λ x y at bytes why d. tt)
+      (λ q x y why d. d.0) (λ x y count why d. tt) (λ x y bytes why d. tt) (λ x y w at count bytes why d b. tt)
+      (λ x y w at bytes why d b. tt) (λ q x y w reply why d b. b) (λ x y w count bytes d b. tt)
+      (λ x y w bytes d b. tt) fault e (call_row-row given numbers request) narrow in
+      (later.folder, λ e. no-file-blame (blame FileFault e), λ e. no-memory-blame (blame OutOfMemory e)) where
+        no-file-blame : {X F I C : Type 0} {s s' : At X F I C Kept}
+            → Blames stops (λ why x x'. ⊤) (λ why x x'. ⊥) (λ x x'. ⊤) (λ x x'. ⊤) FileFault s s' → ⊥
+        no-file-blame (port_to why e b) = let no : ⊥ = cc in no
+        no-file-blame (folder_to why e b) = b
+        no-file-blame (input_to e b) = let no : ⊥ = cc in no
+        no-file-blame (console_to e b) = let no : ⊥ = cc in no
+
+        no-memory-blame : {X F I C : Type 0} {s s' : At X F I C Kept}
+            → Blames stops (λ why x x'. ⊤) (λ why x x'. ⊥) (λ x x'. ⊤) (λ x x'. ⊤) OutOfMemory s s' → ⊥
+        no-memory-blame (port_to why e b) = let no : ⊥ = cc in no
+        no-memory-blame (folder_to why e b) = b
+        no-memory-blame (input_to e b) = let no : ⊥ = cc in no
+        no-memory-blame (console_to e b) = let no : ⊥ = cc in no

@@ -7,7 +7,7 @@ ghost use Rattle.host_text.specs.Played.{Played, at};
 ghost use Rattle.syscall_proxy.specs.CallTable.{call_row};
 ghost use Rattle.syscall_proxy.specs.HostLaws.{Late, NeverFell, Unmoved};
 ghost use Rattle.syscall_proxy.specs.Kept.{kept};
-ghost use Rattle.syscall_proxy.specs.Streams.{call_puts, call_takes};
+ghost use Rattle.syscall_proxy.specs.Streams.{call_asks, call_puts, call_takes};
 ghost use Rattle.syscall_proxy.specs.Worlds.{IsSmall, IsWorldOf};
 ghost use Rattle.syscall_proxy.specs.declared.answers.CallFault.{CallFault as Fault};
 
@@ -68,6 +68,11 @@ impl Host {
             ≡ capacity (C.held console.old) (C.room console.old) }
         ensures input_untouched { call_takes self.old.numbers request ≡ 0 → input.new ≡ input.old }
         ensures console_untouched { call_puts self.old.numbers request ≡ 0 → console.new ≡ console.old }
+        ensures folder_untouched { call_asks self.old.numbers request ≡ false → folder.new ≡ folder.old }
+        ensures input_asked { call_takes self.old.numbers request ≡ 0 → result ≡ Err CallFault.InputFault → ⊥ }
+        ensures console_asked { call_puts self.old.numbers request ≡ 0 → result ≡ Err CallFault.ConsoleFault → ⊥ }
+        ensures file_asked { call_asks self.old.numbers request ≡ false → result ≡ Err CallFault.FileFault → ⊥ }
+        ensures memory_asked { call_asks self.old.numbers request ≡ false → result ≡ Err CallFault.OutOfMemory → ⊥ }
     {
         carry_out(
             &mut self.calls,

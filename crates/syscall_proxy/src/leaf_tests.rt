@@ -1,8 +1,11 @@
+use super::Host;
 use super::flags::OpenFlags;
 use super::path_rules::guest_path;
 use super::request::request_of;
 use super::stat::stat_record;
-use fe_base::ErrNo;
+use fe_base::{ErrNo, Words};
+use folder_tree::read_path;
+use std::test::Fail;
 
 const HERE: u32 = 0xffff_ff9c;
 
@@ -80,4 +83,19 @@ fn records_and_requests(rt: HostRuntime) {
     bytes[15] = 0x80;
     bytes[56] = 7;
     assert!(rt; request_of(&bytes) == [64, 1 << 63, 0, 0, 0, 0, 0, 7]);
+}
+
+#[test]
+fn a_host_begins(rt: HostRuntime) -> Result<(), Fail> {
+    let mut args = Words::new(rt.alloc());
+    args.push("p")?;
+    args.push("one")?;
+    match read_path(b"d") {
+        Ok(root) => {
+            let host = Host::new(rt.alloc(), &args, root)?;
+            assert!(rt; !host.acted());
+        }
+        Err(_) => assert!(rt; false),
+    }
+    Ok(())
 }

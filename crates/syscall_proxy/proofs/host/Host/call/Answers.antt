@@ -6,7 +6,7 @@ use Rattle.syscall_proxy.specs.HostLaws.{call-fault, call-blames, blames-file, b
 use Rattle.syscall_proxy.specs.HostLaws.{blames-console, call-counts, call-world, call-steady}
 use Rattle.syscall_proxy.specs.Kept.{HostState, kept}
 use Rattle.syscall_proxy.specs.StreamLaws.{call-steady-input, call-steady-console, call-console-stays, call-capacity}
-use Rattle.syscall_proxy.specs.StreamLaws.{call-untaken, call-unput}
+use Rattle.syscall_proxy.specs.StreamLaws.{call-untaken, call-unput, call-unasked}
 use Rattle.syscall_proxy.specs.declared.answers.CallFault.TheVariants.{FileFault, OutOfMemory, InputFault, ConsoleFault}
 use Rattle.syscall_proxy.proofs.host.Host.call.Given as given
 use Rattle.syscall_proxy.proofs.host.Host.call.Goals as goal
@@ -88,10 +88,35 @@ returns-clause-capacity g c = call-capacity g.P.ChunkPort g.F.Folder g.I.Source 
 
 pub returns-clause-input_untouched : goal.returns-clause-input_untouched
 returns-clause-input_untouched g c =
-    λ none. call-untaken g.P.ChunkPort g.F.Folder g.I.Source g.C.Sink c.args.self.now.given c.args.self.now.numbers
-    c.args.request none (followed g c [])
+    λ none. (call-untaken g.P.ChunkPort g.F.Folder g.I.Source g.C.Sink c.args.self.now.given c.args.self.now.numbers
+    c.args.request none (followed g c [])).0
 
 pub returns-clause-console_untouched : goal.returns-clause-console_untouched
 returns-clause-console_untouched g c =
-    λ none. call-unput g.P.ChunkPort g.F.Folder g.I.Source g.C.Sink c.args.self.now.given c.args.self.now.numbers
-    c.args.request none (followed g c [])
+    λ none. (call-unput g.P.ChunkPort g.F.Folder g.I.Source g.C.Sink c.args.self.now.given c.args.self.now.numbers
+    c.args.request none (followed g c [])).0
+
+pub returns-clause-folder_untouched : goal.returns-clause-folder_untouched
+returns-clause-folder_untouched g c =
+    λ none. (call-unasked g.P.ChunkPort g.F.Folder g.I.Source g.C.Sink c.args.self.now.given c.args.self.now.numbers
+    c.args.request none (followed g c [])).0
+
+pub returns-clause-input_asked : goal.returns-clause-input_asked
+returns-clause-input_asked g c =
+    λ none e. (call-untaken g.P.ChunkPort g.F.Folder g.I.Source g.C.Sink c.args.self.now.given c.args.self.now.numbers
+    c.args.request none (followed g c [])).1 e
+
+pub returns-clause-console_asked : goal.returns-clause-console_asked
+returns-clause-console_asked g c =
+    λ none e. (call-unput g.P.ChunkPort g.F.Folder g.I.Source g.C.Sink c.args.self.now.given c.args.self.now.numbers
+    c.args.request none (followed g c [])).1 e
+
+pub returns-clause-file_asked : goal.returns-clause-file_asked
+returns-clause-file_asked g c = λ none e.
+    (call-unasked g.P.ChunkPort g.F.Folder g.I.Source g.C.Sink c.args.self.now.given c.args.self.now.numbers
+    c.args.request none (followed g c [])).1 e
+
+pub returns-clause-memory_asked : goal.returns-clause-memory_asked
+returns-clause-memory_asked g c =
+    λ none e. (call-unasked g.P.ChunkPort g.F.Folder g.I.Source g.C.Sink c.args.self.now.given c.args.self.now.numbers
+    c.args.request none (followed g c [])).2 e

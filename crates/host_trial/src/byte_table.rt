@@ -1,0 +1,111 @@
+// The calls that move bytes: read 63, write 64, pread64 67, pwrite64 68 and getmainvars 2011, once for each way out of
+// their rows, and numbers that are no call.
+
+use crate::rows::{Leaves, Row};
+use crate::words::{A_FILE, BUFFER, EBADF, EFBIG, EINVAL, ENOMEM, ENOSYS, ESPIPE, HERE, TEXT};
+
+/// By what stands at the number, and by its rights.
+pub static BYTE_ROWS: [Row; 54] = [
+    Row([63, 9, BUFFER, 1, 0, 0], EBADF, Leaves::All),
+    Row([63, 64, BUFFER, 1, 0, 0], EBADF, Leaves::All),
+    Row([63, 1, BUFFER, 1, 0, 0], EBADF, Leaves::All),
+    Row([63, 1, BUFFER, 0, 0, 0], EBADF, Leaves::All),
+    Row([63, 4, BUFFER, 1, 0, 0], EBADF, Leaves::All),
+    Row([63, 0, BUFFER, 0, 0, 0], 0, Leaves::All),
+    Row([63, 3, BUFFER, 0, 0, 0], 0, Leaves::All),
+    Row([63, 0, BUFFER, 3, 0, 0], 3, Leaves::Guest(BUFFER, b"inp..")),
+    Row(
+        [63, 0, BUFFER, 100, 0, 0],
+        5,
+        Leaves::Guest(BUFFER, b"input."),
+    ),
+    Row([63, 3, BUFFER, 2, 0, 0], 2, Leaves::Guest(BUFFER, b"he.")),
+    Row(
+        [63, 3, BUFFER, 100, 0, 0],
+        5,
+        Leaves::Guest(BUFFER, b"hello."),
+    ),
+    Row(
+        [63, 3, BUFFER, u64::MAX, 0, 0],
+        5,
+        Leaves::Guest(BUFFER, b"hello."),
+    ),
+    Row([63, 5, BUFFER, 4, 0, 0], 4, Leaves::Guest(BUFFER, b"0123.")),
+    Row(
+        [63, 0x1_0000_0003, BUFFER, 1, 0, 0],
+        1,
+        Leaves::Guest(BUFFER, b"h."),
+    ),
+    Row([64, 9, TEXT, 1, 0, 0], EBADF, Leaves::All),
+    Row([64, 0, TEXT, 1, 0, 0], EBADF, Leaves::All),
+    Row([64, 0, TEXT, 0, 0, 0], EBADF, Leaves::All),
+    Row([64, 3, TEXT, 1, 0, 0], EBADF, Leaves::All),
+    Row([64, 1, TEXT, 0, 0, 0], 0, Leaves::All),
+    Row([64, 4, TEXT, 0, 0, 0], 0, Leaves::All),
+    Row([64, 1, TEXT, 2, 0, 0], 2, Leaves::Console(b"Hi")),
+    Row([64, 2, TEXT, 8, 0, 0], 8, Leaves::Console(b"Hi there")),
+    Row(
+        [64, 4, TEXT, 2, 0, 0],
+        2,
+        Leaves::File(b"d/w", b"Hi23456789"),
+    ),
+    Row(
+        [64, 5, TEXT, 8, 0, 0],
+        8,
+        Leaves::File(b"d/w", b"Hi there89"),
+    ),
+    Row(
+        [64, 6, TEXT, 2, 0, 0],
+        2,
+        Leaves::File(b"d/w", b"0123456789Hi"),
+    ),
+    Row([67, 9, BUFFER, 1, 0, 0], EBADF, Leaves::All),
+    Row([67, 0, BUFFER, 1, 0, 0], ESPIPE, Leaves::All),
+    Row([67, 1, BUFFER, 1, 0, 0], ESPIPE, Leaves::All),
+    Row([67, 4, BUFFER, 1, 1 << 63, 0], EBADF, Leaves::All),
+    Row([67, 3, BUFFER, 1, 1 << 63, 0], EINVAL, Leaves::All),
+    Row([67, 3, BUFFER, 0, 1 << 63, 0], EINVAL, Leaves::All),
+    Row([67, 3, BUFFER, 0, 0, 0], 0, Leaves::All),
+    Row([67, 3, BUFFER, 3, 1, 0], 3, Leaves::Guest(BUFFER, b"ell.")),
+    Row([67, 3, BUFFER, 3, 5, 0], 0, Leaves::All),
+    Row([67, 3, BUFFER, 1, (1 << 63) - 1, 0], 0, Leaves::All),
+    Row([68, 9, TEXT, 1, 0, 0], EBADF, Leaves::All),
+    Row([68, 0, TEXT, 1, 0, 0], ESPIPE, Leaves::All),
+    Row([68, 1, TEXT, 1, 0, 0], ESPIPE, Leaves::All),
+    Row([68, 3, TEXT, 1, 1 << 63, 0], EBADF, Leaves::All),
+    Row([68, 5, TEXT, 1, 1 << 63, 0], EINVAL, Leaves::All),
+    Row([68, 5, TEXT, 2, 268_435_455, 0], EFBIG, Leaves::All),
+    Row([68, 5, TEXT, 1, 268_435_456, 0], EFBIG, Leaves::All),
+    Row([68, 5, TEXT, 0, 268_435_456, 0], 0, Leaves::All),
+    Row(
+        [68, 5, TEXT, 2, 2, 0],
+        2,
+        Leaves::File(b"d/w", b"01Hi456789"),
+    ),
+    Row(
+        [68, 6, TEXT, 2, 0, 0],
+        2,
+        Leaves::File(b"d/w", b"Hi23456789"),
+    ),
+    Row(
+        [68, 5, TEXT, 2, 12, 0],
+        2,
+        Leaves::File(b"d/w", b"0123456789\0\0Hi"),
+    ),
+    Row([2011, BUFFER, 0, 0, 0, 0], ENOMEM, Leaves::All),
+    Row([2011, BUFFER, 45, 0, 0, 0], ENOMEM, Leaves::All),
+    Row(
+        [2011, BUFFER, 46, 0, 0, 0],
+        0,
+        Leaves::Guest(BUFFER, b"\x02\0\0\0\0\0\0\0"),
+    ),
+    Row(
+        [2011, BUFFER, u64::MAX, 0, 0, 0],
+        0,
+        Leaves::Guest(BUFFER + 24, b"\0\0\0\0\0\0\0\0\0\0\0\0\0\0\0\0p\0one\0."),
+    ),
+    Row([0, 0, 0, 0, 0, 0], ENOSYS, Leaves::All),
+    Row([214, 0, 0, 0, 0, 0], ENOSYS, Leaves::All),
+    Row([999, HERE, A_FILE, 3, 0, 0], ENOSYS, Leaves::All),
+    Row([u64::MAX, 0, 0, 0, 0, 0], ENOSYS, Leaves::All),
+];
