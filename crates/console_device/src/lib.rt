@@ -1,7 +1,8 @@
 // The console device: one byte out to a console, and one byte in from the input (device 1 of riscv-isa-sim's HTIF).
 //
-// `write_byte` makes one put, `read_byte` one take. What they do to objects that tell their bytes, when they fail and what
-// stays steady is said as of `Sink::put` and `Source::take` themselves.
+// What `write_byte` does to a console that tells its bytes, when it fails and what stays steady is said as of one
+// `Sink::put` of the byte, and of `read_byte` as of one `Source::take`. How many calls are made is told by no clause: a
+// put or a take of no bytes besides, and a second take at the end of the input, are seen by tests alone.
 //
 // Nothing here takes memory.
 #![tactic(auto)]

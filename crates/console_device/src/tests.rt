@@ -18,6 +18,24 @@ fn bytes_come_one_by_one(rt: HostRuntime) -> Result<(), Fail> {
     Ok(())
 }
 
+// The takes 1 and 5 fail, so that one take more than one a byte, or more than one at the end, is seen.
+#[test]
+fn each_byte_is_one_take(rt: HostRuntime) -> Result<(), Fail> {
+    let mut input = ByteSource::new(rt.alloc(), b"abc", &[1, 5])?;
+    for want in [
+        Ok(Some(b'a')),
+        Err(Failed),
+        Ok(Some(b'b')),
+        Ok(Some(b'c')),
+        Ok(None),
+        Err(Failed),
+        Ok(None),
+    ] {
+        assert_eq!(rt; read_byte(&mut input), want);
+    }
+    Ok(())
+}
+
 #[test]
 fn bytes_go_one_by_one(rt: HostRuntime) -> Result<(), Fail> {
     let mut console = ByteSink::new(rt.alloc(), 3, &[1])?;
