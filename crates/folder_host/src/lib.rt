@@ -7,6 +7,7 @@
 // device) is a fault, and is never opened.
 #![tactic(auto)]
 
+mod calls;
 mod host_folder;
 mod names;
 #[cfg(test)]
