@@ -1,3 +1,4 @@
 pub mod AloneLaws
 pub mod Leaves
+pub mod PlaceLaws
 pub mod TurnLemmas

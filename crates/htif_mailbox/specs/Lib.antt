@@ -4,4 +4,5 @@ pub mod Causes
 pub mod Commands
 pub mod Handlers
 pub mod Mailboxes
+pub mod Places
 pub mod Turns

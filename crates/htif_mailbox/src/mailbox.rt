@@ -1,11 +1,12 @@
 // The host's side of the mailbox, one host turn at a time.
-ghost use Rattle.std.specs.Prelude.{◌≡◌, Err, IfErr, IsTrue};
+ghost use Rattle.std.specs.Prelude.{◌≡◌, ℕ, Err, IfErr, IsErrOf, IsTrue};
 ghost use Rattle.fe_base.specs.MemoryMap.{is_beat};
 ghost use Rattle.fe_base.specs.Outside.{Rose};
 ghost use Rattle.host_text.specs.Outside.{acts};
 ghost use Rattle.host_text.specs.Played.{Played, at};
 ghost use Rattle.htif_mailbox.specs.Alone.{at_memory, memory_alone};
 ghost use Rattle.htif_mailbox.specs.Mailboxes.{first_state, keeping};
+ghost use Rattle.htif_mailbox.specs.Places.{IsOfRequest};
 ghost use Rattle.htif_mailbox.specs.Turns.{give_text, serve_text, turn_text};
 
 use crate::answers::{MailFault, Turned};
@@ -27,6 +28,8 @@ pub struct Mailbox {
 }
 
 impl Model for Mailbox {
+    ghost use Rattle.std.specs.Prelude.{IsTrue};
+    ghost use Rattle.fe_base.specs.MemoryMap.{is_beat};
     ghost use Rattle.htif_mailbox.specs.Handlers.{kept_by};
     ghost use Rattle.htif_mailbox.specs.Mailboxes.{MailState};
 
@@ -38,6 +41,8 @@ impl Model for Mailbox {
       tohost = m.tohost;
       fromhost = m.fromhost;
     } };
+
+    ghost invariant = { λ m. IsTrue (is_beat m.tohost) × IsTrue (is_beat m.fromhost) };
 }
 
 impl Mailbox {
@@ -87,6 +92,8 @@ impl Mailbox {
             → Rose (I.faults input.old) (I.faults input.new) }
         ensures console_fault { result ≡ Err (MailFault.Call CallFault.ConsoleFault)
             → Rose (C.faults console.old) (C.faults console.new) }
+        ensures unmapped { (doubleword : ℕ) → IsErrOf result (MailFault.Port (MemStop.Unmapped doubleword))
+            → IsOfRequest P.ChunkPort self.old.tohost mem.old doubleword }
         ensures waiting { IfErr result (λ _. self.new.kept.waiting ≡ self.old.kept.waiting) }
         ensures played { Played (acts P.ChunkPort F.Folder I.Source C.Sink) (serve_text self.old.given self.old.tohost)
             (at mem.old folder.old input.old console.old self.old.kept) result
@@ -101,6 +108,7 @@ impl Mailbox {
         ensures usable { P.usable mem.new }
         ensures same { self.new ≡ keeping self.old self.new.kept }
         ensures refused { IfErr result (λ _. self.new.kept ≡ self.old.kept) }
+        ensures mapped { (doubleword : ℕ) → IsErrOf result (MemStop.Unmapped doubleword) → ⊥ }
         ensures played { Played (memory_alone P.ChunkPort) (give_text self.old.fromhost)
             (at_memory mem.old self.old.kept) result (at_memory mem.new self.new.kept) }
     {
@@ -126,6 +134,8 @@ impl Mailbox {
             → Rose (I.faults input.old) (I.faults input.new) }
         ensures console_fault { result ≡ Err (MailFault.Call CallFault.ConsoleFault)
             → Rose (C.faults console.old) (C.faults console.new) }
+        ensures unmapped { (doubleword : ℕ) → IsErrOf result (MailFault.Port (MemStop.Unmapped doubleword))
+            → IsOfRequest P.ChunkPort self.old.tohost mem.old doubleword }
         ensures played { Played (acts P.ChunkPort F.Folder I.Source C.Sink)
             (turn_text self.old.given self.old.tohost self.old.fromhost)
             (at mem.old folder.old input.old console.old self.old.kept) result

@@ -1,4 +1,5 @@
-use Rattle.std.proofs.Common.{Bool, true, false, Ok, ap, refl, ◌∙◌}
+use Rattle.std.proofs.Common.{◌≡◌, Bool, true, false, Ok, Err, ap, refl, ◌∙◌}
+use Rattle.chunk_memory.specs.declared.stops.MemStop.TheVariants.{Unmapped}
 use Rattle.host_text.specs.Played.{ended}
 use Rattle.host_text.specs.Text.{Done}
 use Rattle.syscall_proxy.proofs.Leaves.{residual}
@@ -45,3 +46,18 @@ pub returns-else-given-clause-played : goal.returns-else-given-clause-played
 returns-else-given-clause-played g c = turn-over g.P.ChunkPort g.F.Folder g.I.Source g.C.Sink c.args.self.now.given c.args.self.now.tohost c.args.self.now.fromhost Idle (c.in_ok-served.was ∙ ap Ok c.in-Idle.is) c.serve.ensures.played
     (gave-then g.P.ChunkPort g.F.Folder g.I.Source g.C.Sink c.serve.new.folder c.serve.new.input c.serve.new.console c.args.self.now.fromhost (λ (given : Bool). Done (gave given)) false (ap (λ (m : MailState). m.fromhost) c.serve.ensures.same)
     (c.in_ok-given-in-Idle.was ∙ ap Ok c.if-given.false) c.give-in-Idle.ensures.played (ended refl refl))
+
+pub returns-in_err-served-clause-unmapped : goal.returns-in_err-served-clause-unmapped
+returns-in_err-served-clause-unmapped g c = λ doubleword e.
+    let fault-is : c.in_err-served.field-0.0 ≡ Port (Unmapped doubleword) = cc (residual _ c.in_err-served.field-0.0 c.from_residual.ensures) in
+    c.serve.ensures.unmapped doubleword (c.in_err-served.was ∙ ap Err fault-is)
+
+pub returns-in_err-give-in-Served-clause-unmapped : goal.returns-in_err-give-in-Served-clause-unmapped
+returns-in_err-give-in-Served-clause-unmapped g c = λ doubleword e.
+    let why-is : c.in_err-give-in-Served.field-0.0 ≡ Unmapped doubleword = cc (residual _ (Port c.in_err-give-in-Served.field-0.0) c.from_residual-in_err-give-in-Served.ensures) in
+    absurd (c.give.ensures.mapped doubleword (c.in_err-give-in-Served.was ∙ ap Err why-is))
+
+pub returns-in_err-given-in-Idle-clause-unmapped : goal.returns-in_err-given-in-Idle-clause-unmapped
+returns-in_err-given-in-Idle-clause-unmapped g c = λ doubleword e.
+    let why-is : c.in_err-given-in-Idle.field-0.0 ≡ Unmapped doubleword = cc (residual _ (Port c.in_err-given-in-Idle.field-0.0) c.from_residual-in_err-given-in-Idle.ensures) in
+    absurd (c.give-in-Idle.ensures.mapped doubleword (c.in_err-given-in-Idle.was ∙ ap Err why-is))
