@@ -1,6 +1,6 @@
 // The option `--folder`: how its words fail, and which directory it names.
 use super::programs::{END, program};
-use super::{Case, fails, plain};
+use super::{Case, check_words, fails, plain};
 use crate::answer::Answer;
 use crate::front::front;
 use elf_loader::ElfFault;
@@ -109,11 +109,19 @@ fn folders_are_refused_in_order(rt: HostRuntime) -> Result<(), Fail> {
     let fault = Answer::BadElf(ElfFault::Short);
     under(&rt, alloc, "e", b"", fault, "pkfe: bad elf 2\n")?;
     // The arguments' length is told last.
+    with_long_argument(&rt, alloc)
+}
+
+// A directory that is missing is told before an argument that is too long.
+fn with_long_argument(rt: &impl Abort, alloc: Global) -> Result<(), Fail> {
+    let file = program(alloc, &END)?;
     let bytes: Vec<u8> = vec![in alloc; b'a'; 65_494]?;
     let argument = from_utf8(&bytes)?;
-    let case = Case {
-        words: &["plain", "--folder", "e", "p", argument],
-        ..plain(&file, Answer::NoFolder, 67, b"", line)
-    };
-    over_directory(&rt, alloc, &case)
+    let mut words = Words::new(alloc);
+    for word in ["plain", "--folder", "e", "p"] {
+        words.push(word)?;
+    }
+    words.push(argument)?;
+    let case = plain(&file, Answer::NoFolder, 67, b"", "pkfe: no folder\n");
+    check_words(rt, alloc, &words, &case)
 }
