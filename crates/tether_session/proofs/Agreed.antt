@@ -1,8 +1,11 @@
 -- Whatever a call comes to while the kernel waits, the session agrees with the direct run at its place.
 use Rattle.std.proofs.Common.{◌≡◌, ◌≤◌, ◌+◌, ◌-◌, ◌==◌, ℕ, Bool, true, false, List, refl, sym, ap, subst, ◌∙◌, arith}
+use Rattle.std.proofs.Common.{inl, inr}
 use Rattle.std.specs.Prelude.{if◌then◌else◌, Some, Result}
 use Rattle.std.proofs.lemmas.Bool.{ne_eqb, eq-eqb}
+use Rattle.folder_tree.specs.Paths.{Parts}
 use Rattle.folder_tree.specs.Tree.{Tree, files_of}
+use Rattle.host_text.specs.Openings.{AsBefore}
 use Rattle.host_text.specs.Runs.{Place, End}
 use Rattle.host_text.specs.World.{Contents, World}
 use Rattle.htif_mailbox.specs.declared.answers.MailFault.{MailFault}
@@ -16,10 +19,11 @@ use Rattle.rv_csr.specs.declared.privilege.Mode.{Mode}
 use Rattle.rv_csr.specs.declared.privilege.Mode.TheVariants as mode
 use Rattle.rv_hart.specs.HartStep.{System}
 use Rattle.syscall_proxy.specs.Kept.{Kept, Setting}
+use Rattle.syscall_proxy.specs.Streams.{MayOpen}
 use Rattle.syscall_proxy.specs.declared.answers.CallAnswer.{CallAnswer}
 use Rattle.syscall_proxy.specs.declared.answers.CallAnswer.TheVariants.{Result as Value, Exit}
 use Rattle.tether_session.specs.Place.{Agrees, Book, in_call, noted_by, noted_in, place, place_by}
-use Rattle.tether_session.specs.Serving.{Here, SameFiles, TellsAll, LeftWaiting, Pending, Stepped, Outcome, carried_out}
+use Rattle.tether_session.specs.Serving.{Here, TellsAll, LeftWaiting, Pending, Stepped, Outcome, carried_out}
 use Rattle.tether_session.specs.Serving.{has_exited, refused_before, refused_behind, CallsAgree}
 use Rattle.tether_session.specs.Waiting.{CallState, Waiting, process_of}
 
@@ -77,6 +81,17 @@ answer-contents : (process : Process) (a : CallAnswer) (p : Place (List ℕ) Kep
 answer-contents process (Value value) p = refl
 answer-contents process (Exit status) p = refl
 
+-- the same files; how often each is open is no part of them
+abbrev SameFiles : Tree → Tree → Type 0
+SameFiles t now = files_of now ≡ files_of t
+
+-- one open more changes no file
+same-files : (may : Parts → Type 0) (t now : Tree) → AsBefore may t now → SameFiles t now
+same-files may t now before = elim before [
+  | inl same ↦ ap (λ (z : Tree). files_of z) same
+  | inr more ↦ ap (λ (z : Tree). files_of z) more.is
+]
+
 module _ (given : Setting) (start : DirectState) (c : CallState) (user : List ℕ) (w : World)
     (pending : Pending given start c user w) (book : Book)
     (noted : book.acted_at ≤ pending.before) (said : book.said ≡ 0) where
@@ -129,7 +144,8 @@ module _ (given : Setting) (start : DirectState) (c : CallState) (user : List �
   agrees answers r s (has_exited end status e stepped is left) =
       acted-is true _ s left.tells.kept_is stepped.acts
       (after-agrees end left.call_now left.user_now _ s stepped left.same_steps left.waits left.tells)
-  agrees answers r s (refused_before fault now e files left) =
+  agrees answers r s (refused_before fault now e before left) =
+      let files = same-files (MayOpen given c.request) w.contents.tree now before in
       acted-is false _ s left.tells.kept_is refl (before-agrees now _ s files left)
   agrees answers r s (refused_behind fault end e stepped left) =
       acted-is true _ s left.tells.kept_is stepped.acts

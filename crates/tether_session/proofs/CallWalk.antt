@@ -5,18 +5,19 @@ use Rattle.std.proofs.Common.{take, drop, length-drop, refl, sym, ap, subst, ◌
 use Rattle.std.specs.Prelude.{Option, Some, None, Result, Ok, Err}
 use Rattle.std.proofs.lemmas.List.{length-take, length-take-le}
 use Rattle.fe_base.specs.MemoryMap.{user_start}
+use Rattle.folder_tree.specs.Paths.{Parts}
 use Rattle.folder_tree.specs.Tree.{Tree}
 use Rattle.folder_tree.specs.TreeOps.{After}
 use Rattle.guest_memory.proofs.BusLemmas.{user_size-is}
 use Rattle.guest_memory.proofs.PartLemmas.{length-with_part}
 use Rattle.host_text.specs.LeadLaws.{leads-run}
+use Rattle.host_text.specs.Openings.{AsBefore, OpensLast}
 use Rattle.host_text.specs.Played.{Played}
 use Rattle.host_text.specs.Refusals.{refused}
 use Rattle.host_text.specs.RunLaws.{came, reply-fits, some-same}
 use Rattle.host_text.specs.Runs.{Place, Bytes, End, on_row, run, Ties, ReplyFits, Within}
 use Rattle.host_text.specs.Shapes.{is_quiet, either, Ends, Closes, Shaped}
 use Rattle.host_text.specs.Text.{Query, Reply, row_of, Done, Fail, Read, Write, Take, Put, Ask, Note, Look}
-use Rattle.host_text.specs.Told.{quiet-files}
 use Rattle.host_text.specs.World.{World}
 use Rattle.kernel_sim.specs.Advance.{StepsAdvance, HostWritesHold}
 use Rattle.plain_machine.specs.Direct.{DirectState, after_answer, after_host, after_part, after_step, direct_step}
@@ -30,11 +31,13 @@ use Rattle.syscall_proxy.specs.HostRow.{user_bytes, begin, host_row}
 use Rattle.syscall_proxy.specs.Kept.{Kept, Setting, kept}
 use Rattle.syscall_proxy.specs.RowShapes.{stops, Marks, IsResult, IsRow, InUserArea}
 use Rattle.syscall_proxy.specs.Rows.{Row, word}
+use Rattle.syscall_proxy.specs.StreamRows.{call_row-last}
+use Rattle.syscall_proxy.specs.Streams.{MayOpen}
 use Rattle.syscall_proxy.specs.Worlds.{IsWorld, EndsWell}
 use Rattle.syscall_proxy.specs.declared.answers.CallAnswer.{CallAnswer}
 use Rattle.syscall_proxy.specs.declared.answers.CallFault.{CallFault}
 use Rattle.tether_session.proofs.Areas.{on-read, on-write, off-read, off-write, StillWaits}
-use Rattle.tether_session.specs.Serving.{Here, with_waiting, SameFiles, TellsAll, Pending, Stepped, LeftWaiting}
+use Rattle.tether_session.specs.Serving.{Here, with_waiting, TellsAll, Pending, Stepped, LeftWaiting}
 use Rattle.tether_session.specs.ToldActs.{TreeAsked, InputTaken, seen_acts}
 use Rattle.tether_session.specs.Waiting.{CallState, Waiting, process_of}
 
@@ -234,44 +237,44 @@ module _ (advance : StepsAdvance) (writes : HostWritesHold) (c : CallState) wher
       asks takes_off (λ o o' l bytes e d. d ∙ ap (λ (z : List ℕ). z ++ bytes) e)
       a p e inside played ties
 
-  row-refused : {t : Row} {s s' : Here} {r : Result CallAnswer CallFault} (e : CallFault) (p : Place (List ℕ) Kept) → r
-      ≡ Err e → IsRow t → Within InUserArea t → TiesTo s p → Played seen_acts t s r s'
-      → ((now : Tree) × SameFiles p.contents.tree now × StillWaits advance writes c s'.port
+  row-refused : {t : Row} {s s' : Here} {r : Result CallAnswer CallFault} (may : Parts → Type 0) (e : CallFault)
+      (p : Place (List ℕ) Kept) → r ≡ Err e → IsRow t → OpensLast may t → Within InUserArea t → TiesTo s p
+      → Played seen_acts t s r s'
+      → ((now : Tree) × AsBefore may p.contents.tree now × StillWaits advance writes c s'.port
       × TellsAll (record p.contents { tree = now }) p.kept s')
       ⊎ ((end : End (List ℕ) Kept CallAnswer) × (run user_bytes t p ≡ Some end) × StillWaits advance writes c s'.port
       × TellsAll end.place.contents end.place.kept s')
-  row-refused e p h shape inside ties played =
+  row-refused may e p h shape last inside ties played =
       elim (refused seen_acts user_bytes InUserArea (λ x user. Waiting c user x) (λ f t. f ≡ t) (λ i l. i ≡ l)
       (λ o l. o ≡ l)
       (λ x x' t place count bytes fits w d. on-read advance writes c x x' t place count bytes fits w d)
       (λ x x' t place bytes fits w d. on-write advance writes c x x' t place bytes fits w d)
       asks takes_off (λ o o' l bytes e d. d ∙ ap (λ (z : List ℕ). z ++ bytes) e)
-      stops Marks IsResult (λ x. StillWaits advance writes c x) SameFiles (λ t. refl)
-      (λ t u v a b. b ∙ a) quiet-files (λ x t w. (t, w))
+      stops Marks IsResult (λ x t. StillWaits advance writes c x) may (λ x t w. (t, w))
       (λ x x' t place count why fits w d. off-read advance writes c x x' t place count why fits w d)
       (λ x x' t place bytes why fits w d. off-write advance writes c x x' t place bytes why fits w d)
       (λ f f' t q why is d. d ∙ is) (λ i i' l count why is d. d ∙ is) (λ o o' l bytes why is d. d ∙ is)
-      e p h shape inside ties played) [
+      e p h shape last inside ties played) [
         | inl b ↦ inl (
-          b.0,
-          b.1,
-          b.2.port,
+          b.now,
+          b.as_before,
+          b.stands.port,
           record {
-            tree_is = b.2.tree_is;
-            input_is = b.2.input_is;
-            console_is = b.2.console_is;
-            kept_is = b.2.kept_is;
+            tree_is = b.stands.tree_is;
+            input_is = b.stands.input_is;
+            console_is = b.stands.console_is;
+            kept_is = b.stands.kept_is;
           },
         )
         | inr l ↦ inr (
-          l.0,
-          l.1,
-          l.2.port,
+          l.last,
+          l.runs,
+          l.stands.port,
           record {
-            tree_is = l.2.tree_is;
-            input_is = l.2.input_is;
-            console_is = l.2.console_is;
-            kept_is = l.2.kept_is;
+            tree_is = l.stands.tree_is;
+            input_is = l.stands.input_is;
+            console_is = l.stands.console_is;
+            kept_is = l.stands.kept_is;
           },
         )
       ]
@@ -323,7 +326,8 @@ module _ (advance : StepsAdvance) (writes : HostWritesHold) (c : CallState) wher
         × TiesTo s' (place_waiting ws end.place)
     call-done {s = s} {s' = s'} a h played ties =
         let got = row-came a first_place h (call_row-inside given w.numbers c.request pending.inside) played ties in
-        let f = end-of (host_row given c.request w user) (record { answer = a; place = got.0 }) (sym run-is ∙ got.1) in (
+        let f = end-of (host_row given c.request w user) (record { answer = a; place = got.0 })
+        (sym run-is ∙ got.1) in (
           f.0,
           ap (λ (e : End (List ℕ) Kept CallAnswer). e.answer) f.2,
           steps-by f.0 (long-of s.port ties.memory_is) f.1,
@@ -331,15 +335,17 @@ module _ (advance : StepsAdvance) (writes : HostWritesHold) (c : CallState) wher
               (sym (ap (λ (e : End (List ℕ) Kept CallAnswer). e.place) f.2)) got.2,
         )
 
-    -- a refused call: contents are the direct run's before the call, but for opens, or those after it
+    -- a refused call: contents are the direct run's before the call, but for one open more of a file that openat was to
+    -- cut next, or those after it
     pub call-refused : {s s' : Here} {r : Result CallAnswer CallFault} (fault : CallFault) → r ≡ Err fault
         → Played seen_acts (call_row given w.numbers c.request) s r s' → TiesTo s first_place
-        → ((now : Tree) × SameFiles w.contents.tree now
+        → ((now : Tree) × AsBefore (MayOpen given c.request) w.contents.tree now
         × LeftWaiting c (record w.contents { tree = now }) (kept w.numbers false ws) s')
         ⊎ ((end : End (List ℕ) Kept CallAnswer) × Stepped given start c user end
         × LeftWaiting c end.place.contents (with_waiting ws end.place.kept) s')
     call-refused {s = s} {s' = s'} fault h played ties =
-        elim (row-refused fault first_place h (call_row-row given w.numbers c.request)
+        elim (row-refused (MayOpen given c.request) fault first_place h (call_row-row given w.numbers c.request)
+        (call_row-last given w.numbers c.request)
         (call_row-inside given w.numbers c.request pending.inside) ties played) [
           | inl b ↦ inl (
             b.0,

@@ -131,7 +131,7 @@ module _ (advance : StepsAdvance) (writes : HostWritesHold) (given : Setting) (s
     stopped : (why : MemStop) (d : CallState) (s : Here) {r : Result Turned MailFault} → r ≡ Err (Port why) → d.steps
         ≡ c.steps → Waiting d user s.port → Told s → Ends r s
     stopped why d s e steps wait told =
-        refused_before (Port why) w.contents.tree e refl
+        refused_before (Port why) w.contents.tree e (inl refl)
         (record {
           call_now = d;
           same_steps = steps;

@@ -4,7 +4,8 @@ use Rattle.std.specs.Prelude.{◌≡◌, ◌≤◌, ◌+◌, ℕ, Bool, false, t
 use Rattle.std.specs.Prelude.{Err}
 use Rattle.chunk_memory.specs.declared.stops.MemStop.{MemStop}
 use Rattle.fe_base.specs.MemoryMap.{fromhost, request, tohost}
-use Rattle.folder_tree.specs.Tree.{Tree, files_of}
+use Rattle.folder_tree.specs.Tree.{Tree}
+use Rattle.host_text.specs.Openings.{AsBefore}
 use Rattle.host_text.specs.Played.{At, Played}
 use Rattle.host_text.specs.Runs.{End}
 use Rattle.host_text.specs.World.{Contents, World}
@@ -25,6 +26,7 @@ use Rattle.syscall_proxy.specs.CallLaws.{AsksInside}
 use Rattle.syscall_proxy.specs.CallTable.{service_of}
 use Rattle.syscall_proxy.specs.Kept.{Kept, Setting, kept}
 use Rattle.syscall_proxy.specs.Rows.{word}
+use Rattle.syscall_proxy.specs.Streams.{MayOpen}
 use Rattle.syscall_proxy.specs.Worlds.{EndsWell, IsWorld}
 use Rattle.syscall_proxy.specs.declared.answers.CallAnswer.{CallAnswer}
 use Rattle.syscall_proxy.specs.declared.answers.CallAnswer.TheVariants.{Result as Value, Exit}
@@ -48,10 +50,6 @@ with_result value c = record c { request = slice_set c.request 0 value }
 -- what the host keeps, with these answers waiting
 abbrev pub with_waiting : List ℕ → Kept → Kept
 with_waiting answers k = record k { waiting = answers }
-
--- the same files; how often each is open is no part of them
-abbrev pub SameFiles : Tree → Tree → Type 0
-SameFiles t now = files_of now ≡ files_of t
 
 -- told outside and kept is this
 pub record TellsAll (contents : Contents) (k : Kept) (s : Here) : Type 0 where
@@ -92,8 +90,9 @@ pub record Stepped (given : Setting) (start : DirectState) (c : CallState) (user
 module _ (given : Setting) (start : DirectState) (c : CallState) (user : List ℕ) (w : World)
     (pending : Pending given start c user w) where
   -- A system call whose request was read, and behind which these answers wait, comes to one of these: its result
-  -- stands in the request and its answer waits; the program's exit; a refusal before it acted, which changes no file;
-  -- or one after it acted. But for the third, the direct run has made its step.
+  -- stands in the request and its answer waits; the program's exit; a refusal before it acted, which changes nothing
+  -- outside, but for one open more of a file that openat was to cut next; or one after it acted. But for the third, the
+  -- direct run has made its step.
   pub data Outcome (answers : List ℕ) (r : Result Turned MailFault) (s : Here) : Type 0 where
     carried_out : (end : End (List ℕ) Kept CallAnswer) (value : ℕ) → r ≡ Ok Served → Stepped given start c user end
         → end.answer ≡ Value value → Waiting (with_result value c) end.place.memory s.port
@@ -102,7 +101,8 @@ module _ (given : Setting) (start : DirectState) (c : CallState) (user : List �
         → Stepped given start c user end
         → end.answer ≡ Exit status → LeftWaiting c end.place.contents (with_waiting answers end.place.kept) s
         → Outcome answers r s
-    refused_before : (fault : MailFault) (now : Tree) → r ≡ Err fault → SameFiles w.contents.tree now
+    refused_before : (fault : MailFault) (now : Tree) → r ≡ Err fault
+        → AsBefore (MayOpen given c.request) w.contents.tree now
         → LeftWaiting c (record w.contents { tree = now }) (kept w.numbers false answers) s → Outcome answers r s
     refused_behind : (fault : MailFault) (end : End (List ℕ) Kept CallAnswer) → r ≡ Err fault
         → Stepped given start c user end
