@@ -1,0 +1,12 @@
+pub mod Stayed
+pub mod Areas
+pub mod CallWalk
+pub mod MailWords
+pub mod ServeWalk
+pub mod Given
+pub mod Agreed
+pub mod Followed
+pub mod Returned
+pub mod OwnAnswers
+pub mod Loaded
+pub mod SessionLaws
