@@ -1,6 +1,0 @@
-use Rattle.tether_session.proofs.SessionLaws as law
-use Rattle.tether_session.proofs.laws.call_steps_follow.Goals as goal
-
--- src/laws.rt
-pub returns : goal.returns
-returns c = law.call_steps_follow

@@ -1,6 +1,0 @@
-use Rattle.tether_session.proofs.Agreed as law
-use Rattle.tether_session.proofs.laws.calls_agree.Goals as goal
-
--- src/laws.rt
-pub returns : goal.returns
-returns c = law.calls_agree

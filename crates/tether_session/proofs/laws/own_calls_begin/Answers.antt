@@ -1,6 +1,0 @@
-use Rattle.tether_session.proofs.OwnAnswers as law
-use Rattle.tether_session.proofs.laws.own_calls_begin.Goals as goal
-
--- src/laws.rt
-pub returns : goal.returns
-returns c = law.own_calls_begin
