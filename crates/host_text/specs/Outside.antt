@@ -14,12 +14,12 @@ use Rattle.fe_base.specs.Wires.{OnTold}
 use Rattle.fe_base.specs.declared.outside.Failed.{Failed}
 use Rattle.fe_base.specs.declared.outside.Source as source
 use Rattle.fe_base.specs.declared.outside.Sink as sink
-use Rattle.folder_tree.specs.TreeOps.{Row}
 use Rattle.folder_tree.specs.Answers.{Answers, HasCauses, Suits, StaysSteady as StaysSteadyFolder}
 use Rattle.folder_tree.specs.declared.folder.FolderStop.{FolderStop}
 use Rattle.folder_tree.specs.declared.folder.Folder as folder
 use Rattle.host_text.specs.Text.{Query, Reply, row_of}
 use Rattle.host_text.specs.Played.{Acts}
+use Rattle.host_text.specs.Runs.{ReplyFits}
 
 -- what one read of a range of memory did, over this port
 pub record HasRead {P : Type 0} (d : port.Ghosts P) (p p' : P) (place count : ℕ) (r : Result (List ℕ) MemStop)
@@ -54,13 +54,14 @@ pub record HasWritten {P : Type 0} (d : port.Ghosts P) (p p' : P) (place : ℕ) 
   pub empty : length from ≡ 0 → p' ≡ p
   pub empty_done : length from ≡ 0 → IsOk r
 
--- what one call of a folder did
-pub record HasCalled {F A : Type 0} (d : folder.Ghosts F) (f f' : F) (row : Row A) (r : Result A FolderStop)
+-- what one call of a folder did; its reply is no longer than was asked for, whatever the folder tells
+pub record HasCalled {F : Type 0} (d : folder.Ghosts F) (f f' : F) (q : Query) (r : Result (Reply q) FolderStop)
     : Type 0 where
-  pub tree : Answers (d.tree f) (d.tree f') row r
+  pub bound : IfOk r (ReplyFits q)
+  pub tree : Answers (d.tree f) (d.tree f') (row_of q) r
   pub untold : d.tree f ≡ None → d.tree f' ≡ None
   pub cause : HasCauses (d.faults f) (d.faults f') (d.short f) (d.short f') r
-  pub steady : d.steady f → Suits (d.tree f) row → StaysSteadyFolder (d.faults f) (d.faults f') r (d.steady f')
+  pub steady : d.steady f → Suits (d.tree f) (row_of q) → StaysSteadyFolder (d.faults f) (d.faults f') r (d.steady f')
 
 -- what a take gives of these bytes and leaves
 abbrev pub TakesOff : List ℕ → Option (List ℕ) → ℕ → Result (List ℕ) Failed → Type 0
@@ -91,7 +92,7 @@ abbrev pub acts : {P F I C : Type 0} → port.Ghosts P → folder.Ghosts F → s
 acts p f i c = record {
   read = λ x place count r x'. HasRead p x x' place count r;
   write = λ x place bytes r x'. HasWritten p x x' place bytes r;
-  ask = λ q x r x'. HasCalled f x x' (row_of q) r;
+  ask = λ q x r x'. HasCalled f x x' q r;
   take = λ x count r x'. HasTaken i x x' count r;
   put = λ x bytes r x'. HasPut c x x' bytes r;
 }

@@ -22,7 +22,7 @@ is-some o x e = subst (λ z. IsSome z) (sym e) refl
 
 -- what a suiting call of a steady folder says
 suited : {F : Type 0} (f : folder.Ghosts F) (q : Query) (x x' : F) (r : Result (Reply q) FolderStop) (t : Tree)
-    (after : After (Reply q)) → f.tree x ≡ Some t → row_of q t ≡ Some after → f.steady x → HasCalled f x x' (row_of q) r
+    (after : After (Reply q)) → f.tree x ≡ Some t → row_of q t ≡ Some after → f.steady x → HasCalled f x x' q r
     → StaysSteady (f.faults x) (f.faults x') r (f.steady x')
 suited f q x x' r t after told row h d =
     let Q : Option Tree → Type 0 = λ o. Suits o (row_of q) in
@@ -31,7 +31,7 @@ suited f q x x' r t after told row h d =
 module _ {P F I C : Type 0} (p : port.Ghosts P) (f : folder.Ghosts F) (i : source.Ghosts I) (c : sink.Ghosts C) where
   -- a call of the folder that does not fail, and leaves it steady
   pub record HasCalmly (q : Query) (x x' : F) (r : Result (Reply q) FolderStop) : Type 0 where
-    pub called : HasCalled f x x' (row_of q) r
+    pub called : HasCalled f x x' q r
     pub not_failed : IsErrOf r Broken → ⊥
     pub same : f.faults x' ≡ f.faults x
     pub steady : f.steady x'

@@ -206,7 +206,7 @@ module _ {P F I C : Type 0} (p : port.Ghosts P) (f : folder.Ghosts F) (i : sourc
   suited_acts = record {
     read = λ x place count r x'. HasRead p x x' place count r;
     write = λ x place bytes r x'. HasWritten p x x' place bytes r;
-    ask = λ q x r x'. HasCalled f x x' (row_of q) r;
+    ask = λ q x r x'. HasCalled f x x' q r;
     take = λ x count r x'. HasTaken i x x' count r;
     put = λ x bytes r x'. PutsSuited x x' bytes r;
   }

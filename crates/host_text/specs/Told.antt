@@ -22,7 +22,7 @@ use Rattle.host_text.specs.Openings.{OpensLast}
 use Rattle.host_text.specs.Refusals.{Late, Unacted, refused}
 use Rattle.host_text.specs.Outside.{HasRead, HasWritten, HasCalled, HasTaken, HasPut, acts}
 use Rattle.host_text.specs.Runs.{Place, Bytes, End, run, Ties, Within}
-use Rattle.host_text.specs.RunLaws.{came, reply-fits}
+use Rattle.host_text.specs.RunLaws.{came}
 use Rattle.host_text.specs.Shapes.{Stops, is_quiet, Shaped, Unchanged, Acted, shaped-fault}
 
 -- what a refused call leaves of a told tree, of told input and of a told console
@@ -62,13 +62,13 @@ SameFiles f x x' = (t : Tree) → f.tree x ≡ Some t → (t' : Tree) × (f.tree
 
 -- the laws that the law of faults asks for
 pub quiet-asks : {F : Type 0} (f : folder.Ghosts F) (q : Query) (x x' : F) (r : Result (Reply q) FolderStop)
-    → is_quiet q ≡ true → HasCalled f x x' (row_of q) r → SameFiles f x x'
+    → is_quiet q ≡ true → HasCalled f x x' q r → SameFiles f x x'
 quiet-asks f q x x' (Ok reply) quiet d = λ t told. let a =
     d.tree t told in (a.0, a.2, quiet-files q t (record { answer = reply; tree = a.0 }) quiet a.1)
 quiet-asks f q x x' (Err why) quiet d = λ t told. (t, refused-tree t (f.tree x') (row_of q t) why (d.tree t told), refl)
 
 pub refused-asks : {F : Type 0} (f : folder.Ghosts F) (q : Query) (x x' : F) (why : FolderStop)
-    → HasCalled f x x' (row_of q) (Err why) → SameFiles f x x'
+    → HasCalled f x x' q (Err why) → SameFiles f x x'
 refused-asks f q x x' why d = λ t told. (t, refused-tree t (f.tree x') (row_of q t) why (d.tree t told), refl)
 
 pub joined-files : {F : Type 0} (f : folder.Ghosts F) (x y w : F) → SameFiles f x y → SameFiles f y w → SameFiles f x w
@@ -94,7 +94,7 @@ module _ {P F I C M H : Type 0} (p : port.Ghosts P) (f : folder.Ghosts F) (i : s
       (λ x held. c.held x ≡ Some held)
       (λ x x' t at count bytes fit told d. let got = on_read x x' t at count bytes fit told d in
       (got.0, got.1, d.bytes)) on_write
-      (λ x x' t q reply told d. let h = d.tree t told in (h.0, h.1, h.2, reply-fits q t reply h.0 h.1))
+      (λ x x' t q reply told d. let h = d.tree t told in (h.0, h.1, h.2, d.bound))
       (λ x x' left count bytes told d. let got = d.bytes left told in (got.0, got.1, d.bound))
       (λ x x' held bytes told d. d.bytes held told)
       a w e inside h ties
@@ -108,32 +108,28 @@ module _ {P F I C : Type 0} (p : port.Ghosts P) (f : folder.Ghosts F) (i : sourc
   inside_acts = record {
     read = λ x place count r x'. fits place count × HasRead p x x' place count r;
     write = λ x place bytes r x'. fits place (length bytes) × HasWritten p x x' place bytes r;
-    ask = λ q x r x'. HasCalled f x x' (row_of q) r;
+    ask = λ q x r x'. HasCalled f x x' q r;
     take = λ x count r x'. HasTaken i x x' count r;
     put = λ x bytes r x'. HasPut c x x' bytes r;
   }
 
-  -- over a told tree, a text that keeps to these ranges is followed so
-  pub inside-played : {H A E : Type 0} {t : Text H A E} {s s' : At P F I C H} {r : Result A E} (tree : Tree)
-      → f.tree s.folder ≡ Some tree → Within fits t → Played (acts p f i c) t s r s' → Played inside_acts t s r s'
-  inside-played tree told h (ended e same) = ended e same
-  inside-played tree told h (failed e same) = failed e same
-  inside-played tree told h (has_read {bytes = bytes} d next) =
-      has_read (h.0, d) (inside-played tree told (h.1 bytes d.bytes) next)
-  inside-played tree told h (read_stopped d e same) = read_stopped (h.0, d) e same
-  inside-played tree told h (has_written d next) = has_written (h.0, d) (inside-played tree told h.1 next)
-  inside-played tree told h (write_stopped d e same) = write_stopped (h.0, d) e same
-  inside-played tree told h (has_taken {bytes = bytes} d next) =
-      has_taken d (inside-played tree told (h bytes d.bound) next)
-  inside-played tree told h (take_stopped d e same) = take_stopped d e same
-  inside-played tree told h (has_put d next) = has_put d (inside-played tree told h next)
-  inside-played tree told h (put_stopped d e same) = put_stopped d e same
-  inside-played tree told h (has_asked {q = q} {reply = reply} d next) =
-      let a = d.tree tree told in
-      has_asked d (inside-played a.0 a.2 (h reply (reply-fits q tree reply a.0 a.1)) next)
-  inside-played tree told h (ask_stopped d e same) = ask_stopped d e same
-  inside-played tree told h (noted n next) = noted n (inside-played tree told h next)
-  inside-played tree told h (looked {s = s} next) = looked (inside-played tree told (h s.kept) next)
+  -- a text that keeps to these ranges is followed so, whatever the objects tell
+  pub inside-played : {H A E : Type 0} {t : Text H A E} {s s' : At P F I C H} {r : Result A E} → Within fits t
+      → Played (acts p f i c) t s r s' → Played inside_acts t s r s'
+  inside-played h (ended e same) = ended e same
+  inside-played h (failed e same) = failed e same
+  inside-played h (has_read {bytes = bytes} d next) = has_read (h.0, d) (inside-played (h.1 bytes d.bytes) next)
+  inside-played h (read_stopped d e same) = read_stopped (h.0, d) e same
+  inside-played h (has_written d next) = has_written (h.0, d) (inside-played h.1 next)
+  inside-played h (write_stopped d e same) = write_stopped (h.0, d) e same
+  inside-played h (has_taken {bytes = bytes} d next) = has_taken d (inside-played (h bytes d.bound) next)
+  inside-played h (take_stopped d e same) = take_stopped d e same
+  inside-played h (has_put d next) = has_put d (inside-played h next)
+  inside-played h (put_stopped d e same) = put_stopped d e same
+  inside-played h (has_asked {reply = reply} d next) = has_asked d (inside-played (h reply d.bound) next)
+  inside-played h (ask_stopped d e same) = ask_stopped d e same
+  inside-played h (noted n next) = noted n (inside-played h next)
+  inside-played h (looked {s = s} next) = looked (inside-played (h s.kept) next)
 
 -- ---- refusals
 
@@ -165,7 +161,7 @@ module _ {P F I C M H : Type 0} (p : port.Ghosts P) (f : folder.Ghosts F) (i : s
       (λ x x' t at count bytes fit told d. let got = on_read x x' t at count bytes fit told d in
       (got.0, got.1, d.bytes))
       on_write
-      (λ x x' t q reply told d. let h = d.tree t told in (h.0, h.1, h.2, reply-fits q t reply h.0 h.1))
+      (λ x x' t q reply told d. let h = d.tree t told in (h.0, h.1, h.2, d.bound))
       (λ x x' left count bytes told d. let got = d.bytes left told in (got.0, got.1, d.bound))
       (λ x x' held bytes told d. d.bytes held told) z marks answers left may held off_read off_write
       (λ x x' t q why told d. refused-tree t (f.tree x') (row_of q t) why (d.tree t told))

@@ -12,6 +12,7 @@ use Rattle.folder_tree.specs.TreeOps.{read_row}
 use Rattle.folder_tree.specs.declared.folder.FolderStop.{FolderStop}
 use Rattle.folder_tree.specs.declared.folder.Folder as folder
 use Rattle.host_text.specs.Outside.{HasRead, HasTaken, HasCalled}
+use Rattle.host_text.specs.Text.{ReadAt}
 
 -- what was said of so many bytes
 pub same_count : {P : Type 0} (d : port.Ghosts P) (p p' : P) (place room count : ℕ) (r : Result (List ℕ) MemStop)
@@ -55,20 +56,21 @@ taken_front d i i' count n old new rest len same bound takes untold cause steady
 
 -- what a read of a file moved
 pub file_front : {F : Type 0} (d : folder.Ghosts F) (f f' : F) (number place count room n : ℕ) (new rest : List ℕ)
-    → room ≡ count → n ≤ length new
+    → room ≡ count → length new ≡ room → n ≤ length new
     → Answers (d.tree f) (d.tree f') (read_row number place room) (Ok (take n new))
     → (d.tree f ≡ None → d.tree f' ≡ None)
     → HasCauses {A = ℕ} (d.faults f) (d.faults f') (d.short f) (d.short f') (Ok n)
     → (d.steady f → Suits (d.tree f) (read_row number place room)
     → FolderStaysSteady {A = ℕ} (d.faults f) (d.faults f') (Ok n) (d.steady f'))
-    → HasCalled d f f' (read_row number place count) (Ok (take n (new ++ rest)))
-file_front d f f' number place count room n new rest e bound answers untold cause steady =
-    let P : List ℕ → Type 0 = λ bytes. HasCalled d f f' (read_row number place count) (Ok bytes) in
+    → HasCalled d f f' (ReadAt number place count) (Ok (take n (new ++ rest)))
+file_front d f f' number place count room n new rest e same bound answers untold cause steady =
+    let P : List ℕ → Type 0 = λ bytes. HasCalled d f f' (ReadAt number place count) (Ok bytes) in
     let Q : ℕ → Type 0 = λ r. Answers (d.tree f) (d.tree f') (read_row number place r) (Ok (take n new)) in
     let S : ℕ → Type 0 = λ r. d.steady f → Suits (d.tree f) (read_row number place r)
     → FolderStaysSteady {A = ℕ} (d.faults f) (d.faults f') (Ok n) (d.steady f') in
     let s = subst S e steady in
     subst P (sym (take-append-le n new rest bound)) (record {
+      bound = short_front n count new (omega (arith, e, same, bound));
       tree = subst Q e answers;
       untold = untold;
       cause = record {

@@ -221,7 +221,7 @@ module _ {P F I C : Type 0} (p : port.Ghosts P) (f : folder.Ghosts F) (i : sourc
   -- ---- the world
 
   asked : (x x' : F) (t : Tree) (q : Query) (reply : Reply q) → f.tree x ≡ Some t
-      → HasCalled f x x' (row_of q) (Ok reply) → (now : Tree)
+      → HasCalled f x x' q (Ok reply) → (now : Tree)
       × (row_of q t ≡ Some (record { answer = reply; tree = now })) × (f.tree x' ≡ Some now)
   asked x x' t q reply told d = let h = d.tree t told in (h.0, h.1, h.2)
 

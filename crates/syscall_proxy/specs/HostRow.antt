@@ -118,20 +118,19 @@ module _ {P F I C : Type 0} (p : port.Ghosts P) (f : folder.Ghosts F) (i : sourc
       → HasRead p x x' at count (Err why) → ⊥)
       (never_write : (x x' : P) (at : ℕ) (bytes : List ℕ) (why : MemStop) → InUserArea at (length bytes)
       → HasWritten p x x' at bytes (Err why) → ⊥) where
-    -- over a port that never refuses a range of the user area, no fault of the port comes
+    -- over a port that never refuses a range of the user area, no fault of the port comes, whatever the objects tell
     pub call-meets-no-port : {s s' : At P F I C Kept} {r : Result CallAnswer CallFault} (given : Setting)
-        (request : List ℕ) (w : World) (user : List ℕ) (why : MemStop) → r ≡ Err (Port why)
+        (numbers : List Open) (request : List ℕ) (why : MemStop) → r ≡ Err (Port why)
         → AsksInside (service_of (word request 0)) given request
-        → Played (acts p f i c) (call_row given w.numbers request) s r s' → Tells s (begin w user) → ⊥
-    call-meets-no-port given request w user why e inside played told =
-        let kept_inside = inside-played p f i c InUserArea w.contents.tree told.tree_is
-        (call_row-inside given w.numbers request inside) played in
+        → Played (acts p f i c) (call_row given numbers request) s r s' → ⊥
+    call-meets-no-port given numbers request why e inside played =
+        let kept_inside = inside-played p f i c InUserArea (call_row-inside given numbers request inside) played in
         let blame = shaped-blame (inside_acts p f i c InUserArea) stops Marks IsResult (λ why x x'. ⊥) (λ why x x'. ⊤)
         (λ x x'. ⊤) (λ x x'. ⊤) (λ x y at count why d. never_read x y at count why d.0 d.1)
         (λ x y at bytes why d. never_write x y at bytes why d.0 d.1) (λ q x y why d. tt) (λ x y count why d. tt)
         (λ x y bytes why d. tt) (λ x y v at count bytes why d b. b) (λ x y v at bytes why d b. b)
         (λ q x y v reply why d b. tt) (λ x y v count bytes d b. tt) (λ x y v bytes d b. tt) (Port why) e
-        (call_row-row given w.numbers request) kept_inside in
+        (call_row-row given numbers request) kept_inside in
         no_port why blame
 
     -- and a call that is not carried out leaves the guest's bytes too, with all that is told and kept, but for that one open
@@ -158,5 +157,5 @@ module _ {P F I C : Type 0} (p : port.Ghosts P) (f : folder.Ghosts F) (i : sourc
               kept_is = u.stands.kept_is;
             },
           )
-          | inr l ↦ absurd (call-meets-no-port given request w user l.why (e ∙ ap Err l.fault_is) inside played told)
+          | inr l ↦ absurd (call-meets-no-port given w.numbers request l.why (e ∙ ap Err l.fault_is) inside played)
         ]

@@ -2,9 +2,9 @@
 ghost use Rattle.std.specs.Prelude.{◌≡◌, ◌≤◌, ◌+◌, ◌++◌, [], OnOk, Ok, Err, IfErr, IfOk, length, take};
 ghost use Rattle.chunk_memory.specs.declared.stops.MemStop.{MemStop as Stop};
 ghost use Rattle.fe_base.specs.declared.outside.Failed.{Failed as Failure};
-ghost use Rattle.folder_tree.specs.TreeOps.{read_row};
 ghost use Rattle.folder_tree.specs.declared.folder.FolderStop.{FolderStop as Refusal};
 ghost use Rattle.host_text.specs.Outside.{HasCalled, HasRead, HasTaken};
+ghost use Rattle.host_text.specs.Text.{ReadAt};
 ghost use Rattle.syscall_proxy.specs.Rows.{folder_fault as fault_of};
 
 use crate::CallFault;
@@ -129,9 +129,9 @@ impl Buffer {
         count: usize,
     ) -> Result<(), CallFault>
         requires { count ≤ 1048576 }
-        ensures ok { OnOk result (HasCalled F.Folder folder.old folder.new (read_row number place count) (Ok self.new)) }
+        ensures ok { OnOk result (HasCalled F.Folder folder.old folder.new (ReadAt number place count) (Ok self.new)) }
         ensures err { IfErr result (λ fault. (why : Refusal)
-            × HasCalled F.Folder folder.old folder.new (read_row number place count) (Err why)
+            × HasCalled F.Folder folder.old folder.new (ReadAt number place count) (Err why)
             × (fault ≡ fault_of why)) }
     {
         match read_file_front(folder, number, place, count, &mut self.bytes) {
@@ -196,8 +196,8 @@ fn read_file_front<F: Folder>(
     requires { count ≤ length bytes.old }
     ensures bound { IfOk result (λ n. n ≤ count) }
     ensures ok { IfOk result (λ n.
-        HasCalled F.Folder folder.old folder.new (read_row number place count) (Ok (take n bytes.new))) }
-    ensures err { IfErr result (λ why. HasCalled F.Folder folder.old folder.new (read_row number place count) (Err why)) }
+        HasCalled F.Folder folder.old folder.new (ReadAt number place count) (Ok (take n bytes.new))) }
+    ensures err { IfErr result (λ why. HasCalled F.Folder folder.old folder.new (ReadAt number place count) (Err why)) }
 {
     match folder.read_at(number, place, &mut bytes[..count]) {
         Ok(moved) => Ok(moved),

@@ -3,8 +3,9 @@ ghost use Rattle.std.specs.Prelude.{◌≡◌, OnOk, Ok, Err, IfErr, IfOk};
 ghost use Rattle.chunk_memory.specs.declared.stops.MemStop.{MemStop as Stop};
 ghost use Rattle.fe_base.specs.declared.outside.Failed.{Failed as Failure};
 ghost use Rattle.folder_tree.specs.declared.folder.FolderStop.{FolderStop as Refusal};
-ghost use Rattle.folder_tree.specs.TreeOps.{create_row, kind_row, make_dir_row, open_row, release_row, remove_dir_row, remove_row, set_size_row, size_row, write_row};
 ghost use Rattle.host_text.specs.Outside.{HasCalled, HasPut, HasWritten};
+ghost use Rattle.host_text.specs.Text.{Create, Kind, MakeDir, OpenFile, Release, Remove, RemoveDir, SetSize, Size};
+ghost use Rattle.host_text.specs.Text.{WriteAt};
 ghost use Rattle.syscall_proxy.specs.Rows.{folder_fault as fault_of};
 
 use crate::CallFault;
@@ -53,9 +54,9 @@ pub fn put<C: Sink>(console: &mut C, bytes: &Buffer) -> Result<(), CallFault>
 
 /// The size of an open file.
 pub fn size<F: Folder>(folder: &mut F, number: u64) -> Result<u64, CallFault>
-    ensures ok { IfOk result (λ reply. HasCalled F.Folder folder.old folder.new (size_row number) (Ok reply)) }
+    ensures ok { IfOk result (λ reply. HasCalled F.Folder folder.old folder.new (Size number) (Ok reply)) }
     ensures err { IfErr result (λ fault. (why : Refusal)
-        × HasCalled F.Folder folder.old folder.new (size_row number) (Err why)
+        × HasCalled F.Folder folder.old folder.new (Size number) (Err why)
         × (fault ≡ fault_of why)) }
 {
     match folder.size(number) {
@@ -66,9 +67,9 @@ pub fn size<F: Folder>(folder: &mut F, number: u64) -> Result<u64, CallFault>
 
 /// Closes an open file once.
 pub fn release<F: Folder>(folder: &mut F, number: u64) -> Result<(), CallFault>
-    ensures ok { OnOk result (HasCalled F.Folder folder.old folder.new (release_row number) (Ok tt)) }
+    ensures ok { OnOk result (HasCalled F.Folder folder.old folder.new (Release number) (Ok tt)) }
     ensures err { IfErr result (λ fault. (why : Refusal)
-        × HasCalled F.Folder folder.old folder.new (release_row number) (Err why)
+        × HasCalled F.Folder folder.old folder.new (Release number) (Err why)
         × (fault ≡ fault_of why)) }
 {
     match folder.release(number) {
@@ -84,9 +85,9 @@ pub fn write_at<F: Folder>(
     place: u64,
     bytes: &Buffer,
 ) -> Result<(), CallFault>
-    ensures ok { OnOk result (HasCalled F.Folder folder.old folder.new (write_row number place bytes.now) (Ok tt)) }
+    ensures ok { OnOk result (HasCalled F.Folder folder.old folder.new (WriteAt number place bytes.now) (Ok tt)) }
     ensures err { IfErr result (λ fault. (why : Refusal)
-        × HasCalled F.Folder folder.old folder.new (write_row number place bytes.now) (Err why)
+        × HasCalled F.Folder folder.old folder.new (WriteAt number place bytes.now) (Err why)
         × (fault ≡ fault_of why)) }
 {
     write_bytes(folder, number, place, bytes.as_slice())
@@ -98,9 +99,9 @@ fn write_bytes<F: Folder>(
     place: u64,
     bytes: &[u8],
 ) -> Result<(), CallFault>
-    ensures ok { OnOk result (HasCalled F.Folder folder.old folder.new (write_row number place bytes.now) (Ok tt)) }
+    ensures ok { OnOk result (HasCalled F.Folder folder.old folder.new (WriteAt number place bytes.now) (Ok tt)) }
     ensures err { IfErr result (λ fault. (why : Refusal)
-        × HasCalled F.Folder folder.old folder.new (write_row number place bytes.now) (Err why)
+        × HasCalled F.Folder folder.old folder.new (WriteAt number place bytes.now) (Err why)
         × (fault ≡ fault_of why)) }
 {
     match folder.write_at(number, place, bytes) {
@@ -111,9 +112,9 @@ fn write_bytes<F: Folder>(
 
 /// Cuts an open file, or fills it with zeros.
 pub fn set_size<F: Folder>(folder: &mut F, number: u64, size: u64) -> Result<(), CallFault>
-    ensures ok { OnOk result (HasCalled F.Folder folder.old folder.new (set_size_row number size) (Ok tt)) }
+    ensures ok { OnOk result (HasCalled F.Folder folder.old folder.new (SetSize number size) (Ok tt)) }
     ensures err { IfErr result (λ fault. (why : Refusal)
-        × HasCalled F.Folder folder.old folder.new (set_size_row number size) (Err why)
+        × HasCalled F.Folder folder.old folder.new (SetSize number size) (Err why)
         × (fault ≡ fault_of why)) }
 {
     match folder.set_size(number, size) {
@@ -124,9 +125,9 @@ pub fn set_size<F: Folder>(folder: &mut F, number: u64, size: u64) -> Result<(),
 
 /// The kind of a path.
 pub fn kind<F: Folder>(folder: &mut F, path: &Path) -> Result<PathKind, CallFault>
-    ensures ok { IfOk result (λ reply. HasCalled F.Folder folder.old folder.new (kind_row path.now) (Ok reply)) }
+    ensures ok { IfOk result (λ reply. HasCalled F.Folder folder.old folder.new (Kind path.now) (Ok reply)) }
     ensures err { IfErr result (λ fault. (why : Refusal)
-        × HasCalled F.Folder folder.old folder.new (kind_row path.now) (Err why)
+        × HasCalled F.Folder folder.old folder.new (Kind path.now) (Err why)
         × (fault ≡ fault_of why)) }
 {
     match folder.kind(path) {
@@ -137,9 +138,9 @@ pub fn kind<F: Folder>(folder: &mut F, path: &Path) -> Result<PathKind, CallFaul
 
 /// Opens the file at a path, and answers its number.
 pub fn open_file<F: Folder>(folder: &mut F, path: &Path) -> Result<u64, CallFault>
-    ensures ok { IfOk result (λ reply. HasCalled F.Folder folder.old folder.new (open_row path.now) (Ok reply)) }
+    ensures ok { IfOk result (λ reply. HasCalled F.Folder folder.old folder.new (OpenFile path.now) (Ok reply)) }
     ensures err { IfErr result (λ fault. (why : Refusal)
-        × HasCalled F.Folder folder.old folder.new (open_row path.now) (Err why)
+        × HasCalled F.Folder folder.old folder.new (OpenFile path.now) (Err why)
         × (fault ≡ fault_of why)) }
 {
     match folder.open_file(path) {
@@ -150,9 +151,9 @@ pub fn open_file<F: Folder>(folder: &mut F, path: &Path) -> Result<u64, CallFaul
 
 /// Makes an empty file at a path, opens it, and answers its number.
 pub fn create<F: Folder>(folder: &mut F, path: &Path) -> Result<u64, CallFault>
-    ensures ok { IfOk result (λ reply. HasCalled F.Folder folder.old folder.new (create_row path.now) (Ok reply)) }
+    ensures ok { IfOk result (λ reply. HasCalled F.Folder folder.old folder.new (Create path.now) (Ok reply)) }
     ensures err { IfErr result (λ fault. (why : Refusal)
-        × HasCalled F.Folder folder.old folder.new (create_row path.now) (Err why)
+        × HasCalled F.Folder folder.old folder.new (Create path.now) (Err why)
         × (fault ≡ fault_of why)) }
 {
     match folder.create(path) {
@@ -163,9 +164,9 @@ pub fn create<F: Folder>(folder: &mut F, path: &Path) -> Result<u64, CallFault>
 
 /// Removes the name of a file.
 pub fn remove<F: Folder>(folder: &mut F, path: &Path) -> Result<(), CallFault>
-    ensures ok { OnOk result (HasCalled F.Folder folder.old folder.new (remove_row path.now) (Ok tt)) }
+    ensures ok { OnOk result (HasCalled F.Folder folder.old folder.new (Remove path.now) (Ok tt)) }
     ensures err { IfErr result (λ fault. (why : Refusal)
-        × HasCalled F.Folder folder.old folder.new (remove_row path.now) (Err why)
+        × HasCalled F.Folder folder.old folder.new (Remove path.now) (Err why)
         × (fault ≡ fault_of why)) }
 {
     match folder.remove(path) {
@@ -176,9 +177,9 @@ pub fn remove<F: Folder>(folder: &mut F, path: &Path) -> Result<(), CallFault>
 
 /// Makes a directory.
 pub fn make_dir<F: Folder>(folder: &mut F, path: &Path) -> Result<(), CallFault>
-    ensures ok { OnOk result (HasCalled F.Folder folder.old folder.new (make_dir_row path.now) (Ok tt)) }
+    ensures ok { OnOk result (HasCalled F.Folder folder.old folder.new (MakeDir path.now) (Ok tt)) }
     ensures err { IfErr result (λ fault. (why : Refusal)
-        × HasCalled F.Folder folder.old folder.new (make_dir_row path.now) (Err why)
+        × HasCalled F.Folder folder.old folder.new (MakeDir path.now) (Err why)
         × (fault ≡ fault_of why)) }
 {
     match folder.make_dir(path) {
@@ -189,9 +190,9 @@ pub fn make_dir<F: Folder>(folder: &mut F, path: &Path) -> Result<(), CallFault>
 
 /// Removes a directory; false where something stands in it.
 pub fn remove_dir<F: Folder>(folder: &mut F, path: &Path) -> Result<bool, CallFault>
-    ensures ok { IfOk result (λ reply. HasCalled F.Folder folder.old folder.new (remove_dir_row path.now) (Ok reply)) }
+    ensures ok { IfOk result (λ reply. HasCalled F.Folder folder.old folder.new (RemoveDir path.now) (Ok reply)) }
     ensures err { IfErr result (λ fault. (why : Refusal)
-        × HasCalled F.Folder folder.old folder.new (remove_dir_row path.now) (Err why)
+        × HasCalled F.Folder folder.old folder.new (RemoveDir path.now) (Err why)
         × (fault ≡ fault_of why)) }
 {
     match folder.remove_dir(path) {

@@ -10,4 +10,4 @@ returns-in-Ok-clause-ok g c =
     file_front g.F.Folder c.args.folder.now c.read_at.new.self c.args.number c.args.place c.args.count
     (length (take c.args.count c.args.bytes.now)) c.in-Ok.moved c.read_at.new.into
     (drop c.args.count c.args.bytes.now)
-    room c.in-Ok.ensures.bound c.in-Ok.ensures.tree c.in-Ok.ensures.untold c.in-Ok.ensures.cause c.in-Ok.ensures.steady
+    room c.read_at.auto.into c.in-Ok.ensures.bound c.in-Ok.ensures.tree c.in-Ok.ensures.untold c.in-Ok.ensures.cause c.in-Ok.ensures.steady
