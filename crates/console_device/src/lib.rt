@@ -1,13 +1,15 @@
 // The console device: one byte out to a console, and one byte in from the input (device 1 of riscv-isa-sim's HTIF).
 //
 // What `write_byte` does to a console that tells its bytes, when it fails and what stays steady is said as of one
-// `Sink::put` of the byte, and of `read_byte` as of one `Source::take`. How many calls are made is told by no clause: a
-// put or a take of no bytes besides, and a second take at the end of the input, are seen by tests alone.
+// `Sink::put` of the byte, and of `read_byte` as of one `Source::take`. That `write_byte` makes one put is told by its
+// clause `puts`. How many takes `read_byte` makes is told by no clause: a take of no bytes besides, and a second take
+// at the end of the input, are seen by tests alone.
 //
 // Nothing here takes memory.
 #![tactic(auto)]
 
-ghost use Rattle.std.specs.Prelude.{◌≡◌, ℕ, List, [], ◌∷◌, Some, None};
+ghost use Rattle.std.specs.Prelude.{◌≡◌, ℕ, List, [], ◌∷◌, Some, None, option_map};
+ghost use Rattle.fe_base.specs.Memory.{counted};
 ghost use Rattle.fe_base.specs.Outside.{capacity, HasCause, Puts, PutsRoom, PutSuits, StaysSteady};
 ghost use Rattle.console_device.specs.Bytes.{TakesByte};
 
@@ -23,6 +25,7 @@ pub fn write_byte<C: Sink>(byte: u8, console: &mut C) -> Result<(), Failed>
     ensures room { PutsRoom (C.room console.old) (C.room console.new) 1 result }
     ensures no_room { C.room console.old ≡ None → C.room console.new ≡ None }
     ensures untold { C.held console.old ≡ None → C.held console.new ≡ None }
+    ensures puts { C.puts console.new ≡ option_map counted (C.puts console.old) }
     ensures cause { HasCause (C.faults console.old) (C.faults console.new) result }
     ensures steady { C.steady console.old → PutSuits (C.room console.old) 1
         → StaysSteady (C.faults console.old) (C.faults console.new) result (C.steady console.new) }

@@ -1,6 +1,6 @@
 -- What the calls of the objects say, as acts of a text.
 use Rattle.std.specs.Prelude.{◌≡◌, ◌≤◌, ℕ, List, take, drop, length, Option, Some, None, Result, Ok, Err, IfOk, IsOk}
-use Rattle.std.specs.Prelude.{IsErrOf}
+use Rattle.std.specs.Prelude.{IsErrOf, option_map}
 use Rattle.std.specs.Result.{result_err}
 use Rattle.chunk_memory.specs.Ports.{CostsAtMost, Maps, MemCauses, MemUnfaulted}
 use Rattle.chunk_memory.specs.Spelling.{ReadSpelled, WriteSpelled}
@@ -9,6 +9,7 @@ use Rattle.chunk_memory.specs.Turns.{read_turns, write_turns}
 use Rattle.chunk_memory.specs.declared.stops.MemStop.{MemStop}
 use Rattle.chunk_memory.specs.declared.stops.MemStop.TheVariants.{Unmapped}
 use Rattle.chunk_memory.specs.declared.port.ChunkPort as port
+use Rattle.fe_base.specs.Memory.{counted}
 use Rattle.fe_base.specs.Outside.{HasCause, Puts, PutsRoom, PutSuits, StaysSteady, capacity}
 use Rattle.fe_base.specs.Wires.{OnTold}
 use Rattle.fe_base.specs.declared.outside.Failed.{Failed}
@@ -84,6 +85,7 @@ pub record HasPut {C : Type 0} (d : sink.Ghosts C) (c c' : C) (from : List ℕ) 
   pub capacity : capacity (d.held c') (d.room c') ≡ capacity (d.held c) (d.room c)
   pub room : PutsRoom (d.room c) (d.room c') (length from) r
   pub no_room : d.room c ≡ None → d.room c' ≡ None
+  pub puts : d.puts c' ≡ option_map counted (d.puts c)
   pub cause : HasCause (d.faults c) (d.faults c') r
   pub steady : d.steady c → PutSuits (d.room c) (length from) → StaysSteady (d.faults c) (d.faults c') r (d.steady c')
 
