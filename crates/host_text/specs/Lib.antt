@@ -7,6 +7,7 @@ pub mod Runs
 pub mod Shapes
 pub mod Leads
 pub mod Openings
+pub mod Acting
 -- Laws of these definitions, which the clauses and proofs of crates above cite.
 pub mod Laws
 pub mod Ports

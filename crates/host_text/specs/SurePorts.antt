@@ -1,9 +1,10 @@
--- Ports that tell their state and refuse no chunk: over them no range of the user area is refused.
+-- Ports that tell their state and refuse no chunk: over them a range is refused only where it is not mapped, and so none
+-- of the user area.
 use Rattle.std.specs.Prelude.{◌≡◌, ◌≤◌, ◌<◌, ◌+◌, ◌%◌, ◌&&◌, ◌||◌, nat_le, ℕ, Bool, true, false, List, length, Option}
 use Rattle.std.specs.Prelude.{Some}
 use Rattle.std.specs.Prelude.{None, Result, Err, refl}
 use Rattle.std.specs.Result.{result_err}
-use Rattle.std.proofs.Common.{sym, subst, arith}
+use Rattle.std.proofs.Common.{sym, subst, ap, arith}
 use Rattle.std.proofs.lemmas.Bool.{le-leb}
 use Rattle.chunk_memory.specs.Ports.{Maps}
 use Rattle.chunk_memory.specs.Ranges.{IsFirstUnmapped}
@@ -21,6 +22,10 @@ pub record NeverRefuses {P : Type 0} (d : port.Ghosts P) : Type 0 where
   pub tells : (x : P) → (state : d.State) × (d.told x ≡ Some state)
   pub never : (before : d.State) (chunk : Chunk) (stop : PortStop) (after : d.State)
       → d.refused before chunk stop after → ⊥
+
+-- the refusal says that a doubleword is not mapped
+abbrev pub IsUnmapped : MemStop → Type 0
+IsUnmapped why = (doubleword : ℕ) × (why ≡ Unmapped doubleword)
 
 -- ---- the user area is mapped
 
@@ -59,30 +64,43 @@ module _ {P : Type 0} (d : port.Ghosts P) (sure : NeverRefuses d) where
       let P2 : Option d.State → Type 0 = λ o. OnTold (Some one.0) o does in
       (one.0, other.0, subst P2 other.1 (subst P1 one.1 h))
 
+  -- a read that is refused is not mapped
+  pub reads-unmapped : (x x' : P) (at count : ℕ) (why : MemStop) → HasRead d x x' at count (Err why) → IsUnmapped why
+  reads-unmapped x x' at count (Unmapped doubleword) h = (doubleword, refl)
+  reads-unmapped x x' at count Spent h =
+      let k = on-states (ReadsRange d.one d.refused d.unit d.most at count (Err Spent)) x x' h.told in
+      absurd (sure.never _ _ _ _ k.2.made.cut)
+  reads-unmapped x x' at count WireFault h =
+      let k = on-states (ReadsRange d.one d.refused d.unit d.most at count (Err WireFault)) x x' h.told in
+      absurd (sure.never _ _ _ _ k.2.made.cut)
+  reads-unmapped x x' at count (CmdErr number) h =
+      let k = on-states (ReadsRange d.one d.refused d.unit d.most at count (Err (CmdErr number))) x x' h.told in
+      absurd (sure.never _ _ _ _ k.2.made.cut)
+
+  -- so is a write
+  pub writes-unmapped : (x x' : P) (at : ℕ) (bytes : List ℕ) (why : MemStop) → HasWritten d x x' at bytes (Err why)
+      → IsUnmapped why
+  writes-unmapped x x' at bytes (Unmapped doubleword) h = (doubleword, refl)
+  writes-unmapped x x' at bytes Spent h =
+      let k = on-states (WritesRange d.one d.refused d.unit d.most at bytes (Err Spent)) x x' h.told in
+      absurd (sure.never _ _ _ _ k.2.made.cut)
+  writes-unmapped x x' at bytes WireFault h =
+      let k = on-states (WritesRange d.one d.refused d.unit d.most at bytes (Err WireFault)) x x' h.told in
+      absurd (sure.never _ _ _ _ k.2.made.cut)
+  writes-unmapped x x' at bytes (CmdErr number) h =
+      let k = on-states (WritesRange d.one d.refused d.unit d.most at bytes (Err (CmdErr number))) x x' h.told in
+      absurd (sure.never _ _ _ _ k.2.made.cut)
+
+  -- a range of the user area is read
   pub never-reads : (x x' : P) (at count : ℕ) (why : MemStop) → user_start ≤ at → at + count ≤ user_end
       → HasRead d x x' at count (Err why) → ⊥
-  never-reads x x' at count (Unmapped doubleword) low high h =
-      user-whole at count doubleword low high ((h.maps doubleword).0 refl)
-  never-reads x x' at count Spent low high h =
-      let k = on-states (ReadsRange d.one d.refused d.unit d.most at count (Err Spent)) x x' h.told in
-      sure.never _ _ _ _ k.2.made.cut
-  never-reads x x' at count WireFault low high h =
-      let k = on-states (ReadsRange d.one d.refused d.unit d.most at count (Err WireFault)) x x' h.told in
-      sure.never _ _ _ _ k.2.made.cut
-  never-reads x x' at count (CmdErr number) low high h =
-      let k = on-states (ReadsRange d.one d.refused d.unit d.most at count (Err (CmdErr number))) x x' h.told in
-      sure.never _ _ _ _ k.2.made.cut
+  never-reads x x' at count why low high h =
+      let u = reads-unmapped x x' at count why h in
+      user-whole at count u.0 low high ((h.maps u.0).0 (ap Some u.1))
 
+  -- and written
   pub never-writes : (x x' : P) (at : ℕ) (bytes : List ℕ) (why : MemStop) → user_start ≤ at
       → at + length bytes ≤ user_end → HasWritten d x x' at bytes (Err why) → ⊥
-  never-writes x x' at bytes (Unmapped doubleword) low high h =
-      user-whole at (length bytes) doubleword low high ((h.maps doubleword).0 refl)
-  never-writes x x' at bytes Spent low high h =
-      let k = on-states (WritesRange d.one d.refused d.unit d.most at bytes (Err Spent)) x x' h.told in
-      sure.never _ _ _ _ k.2.made.cut
-  never-writes x x' at bytes WireFault low high h =
-      let k = on-states (WritesRange d.one d.refused d.unit d.most at bytes (Err WireFault)) x x' h.told in
-      sure.never _ _ _ _ k.2.made.cut
-  never-writes x x' at bytes (CmdErr number) low high h =
-      let k = on-states (WritesRange d.one d.refused d.unit d.most at bytes (Err (CmdErr number))) x x' h.told in
-      sure.never _ _ _ _ k.2.made.cut
+  never-writes x x' at bytes why low high h =
+      let u = writes-unmapped x x' at bytes why h in
+      user-whole at (length bytes) u.0 low high ((h.maps u.0).0 (ap Some u.1))

@@ -18,10 +18,12 @@ pub struct OpenFile {
 /// What stands at an open number.
 #[derive(Clone, Copy, Debug, PartialEq, Eq)]
 pub enum Open {
+    /// Nothing stands there.
     Closed,
     /// The program's input, which is read alone.
     Input,
     /// The console, which is written alone.
     Console,
+    /// A file of the folder, which the program opened.
     File(OpenFile),
 }
