@@ -13,7 +13,7 @@ use Rattle.chunk_memory.specs.BeatLaws.{eight-of, length-bytes_of, bytes_of-appe
 use Rattle.chunk_memory.proofs.StepLemmas.{put-take}
 use Rattle.chunk_memory.proofs.WordLemmas.{words, AreSmall, words-fit, words-bytes, small-drop, first-number}
 use Rattle.chunk_memory.specs.BeatChunks.{bytes_of, BeatsRead, BeatsWritten, ReadByBeats, WrittenByBeats, BeatStopped, ReadByBeatsUntil, WrittenByBeatsUntil, of_wire, wire_counts}
-use Rattle.chunk_memory.specs.Ports.{PortCauses}
+use Rattle.chunk_memory.specs.Ports.{PortCauses, PortTakes}
 use borrow.Rule.Slice.PartMut.{put_mid}
 
 module _ {S : Type 0} (next : S → Beat → S × ℕ) where
@@ -173,3 +173,23 @@ most-ok done count left left' faults faults' made less = omega (arith, made.fewe
 pub most-err : (T : Type 0) (done count left left' left'' faults faults' : ℕ) (stop : WireStop) → BeatsCount done left left' faults faults' → Lowers {T = T} left' left'' (Err stop) → done + 8 ≤ count → left ≤ left'' + count / 8
 most-err T done count left left' left'' faults faults' WireSpent made lowers room = omega (arith, made.fewer, made.whole, lowers.0, lowers.1)
 most-err T done count left left' left'' faults faults' Failed made lowers room = omega (arith, made.fewer, made.whole, lowers)
+
+-- a chunk that was made takes a beat for each of its doublewords, and one that was spent found fewer left
+pub takes-ok : (done count left left' faults faults' : ℕ) → BeatsCount done left left' faults faults' → done ≤ count → count ≤ done → PortTakes (count / 8) (wire_counts left faults) (wire_counts left' faults') None
+takes-ok done count left left' faults faults' made less past =
+    let all : count ≡ done = omega arith in
+    let number : count / 8 ≡ done / 8 = ap (λ (n : ℕ). n / 8) all in
+    record { made = λ e. omega (arith, made.fewer, number); most = omega (arith, made.fewer, number); spent = λ e. absurd (cc) }
+
+pub takes-err : (T : Type 0) (done count left left' left'' faults faults' faults'' : ℕ) (stop : WireStop) → BeatsCount done left left' faults faults' → Lowers {T = T} left' left'' (Err stop) → done + 8 ≤ count
+    → PortTakes (count / 8) (wire_counts left faults) (wire_counts left'' faults'') (Some (of_wire stop))
+takes-err T done count left left' left'' faults faults' faults'' WireSpent made lowers room = record {
+  made = λ e. absurd (cc);
+  most = omega (arith, made.fewer, made.whole, lowers.0, lowers.1);
+  spent = λ e. omega (arith, made.fewer, made.whole, lowers.0, lowers.1);
+}
+takes-err T done count left left' left'' faults faults' faults'' Failed made lowers room = record {
+  made = λ e. absurd (cc);
+  most = omega (arith, made.fewer, made.whole, lowers);
+  spent = λ e. absurd (cc);
+}

@@ -11,6 +11,7 @@ pub mod ReadSpelled
 pub mod SizeLemmas
 pub mod Stays
 pub mod StepLemmas
+pub mod TakeLemmas
 pub mod ToldLemmas
 pub mod TurnLemmas
 pub mod TurnSteps

@@ -1,5 +1,5 @@
 -- What a call of a port, or of memory over a port, says.
-use Rattle.std.specs.Prelude.{◌≡◌, ◌≤◌, ◌<◌, ◌+◌, ◌%◌, ◌⊎◌, ◌↔◌, ℕ, List, Option, Some, Result, Ok, Err}
+use Rattle.std.specs.Prelude.{◌≡◌, ◌≤◌, ◌<◌, ◌+◌, ◌%◌, ◌⊎◌, ◌↔◌, ⊤, ℕ, List, Option, Some, None, Result, Ok, Err}
 use Rattle.std.specs.Int.{to_le_bytes, w64}
 use Rattle.fe_base.specs.Outside.{Rose}
 use Rattle.chunk_memory.specs.Ranges.{IsMappedRange, IsFirstUnmapped}
@@ -59,6 +59,24 @@ pub record MemUnfaulted (before now : Counts) (stop : Option MemStop) (after : T
   pub unfaulted : stop ≡ Some WireFault → ⊥
   pub same : now.faults ≡ before.faults
   pub steady : after
+
+-- where each chunk that is made takes some function of how many bytes it has
+abbrev pub IfExact : Option (ℕ → ℕ) → ((ℕ → ℕ) → Type 0) → Type 0
+IfExact (Some turns) holds = holds turns
+IfExact None holds = ⊤
+
+-- what takes so many transactions where it is made: it then lowers the number that is left by as many, and else by no
+-- more; Spent comes only where fewer were left as it began
+pub record PortTakes (number : ℕ) (before now : Counts) (stop : Option PortStop) : Type 0 where
+  pub made : stop ≡ None → before.left ≡ now.left + number
+  pub most : before.left ≤ now.left + number
+  pub spent : stop ≡ Some PortSpent → before.left < number
+
+-- the same of memory over a port
+pub record MemTakes (number : ℕ) (before now : Counts) (stop : Option MemStop) : Type 0 where
+  pub made : stop ≡ None → before.left ≡ now.left + number
+  pub most : before.left ≤ now.left + number
+  pub spent : stop ≡ Some Spent → before.left < number
 
 -- over a told and ready state in which every pause is positive, so many transactions were made at most
 abbrev pub CostsAtMost : {S : Type 0} → Option S → (S → Type 0) → (S → Type 0) → Counts → Counts → ℕ → Type 0

@@ -4,7 +4,8 @@ ghost use Rattle.std.specs.Int.{to_le_bytes, w64};
 ghost use Rattle.std.specs.Result.{result_err};
 ghost use Rattle.fe_base.specs.Wires.{OnTold};
 ghost use Rattle.guest_memory.specs.Memory.{with_part};
-ghost use Rattle.chunk_memory.specs.Ports.{ArePortSizes, CostsAtMost, Maps, MemCauses, MemUnfaulted, PortCauses, StaysUnfaulted, with_bytes, word_bytes};
+ghost use Rattle.chunk_memory.specs.Ports.{ArePortSizes, CostsAtMost, IfExact, Maps, MemCauses, MemTakes, MemUnfaulted};
+ghost use Rattle.chunk_memory.specs.Ports.{PortCauses, PortTakes, StaysUnfaulted, with_bytes, word_bytes};
 ghost use Rattle.chunk_memory.specs.Ranges.{IsMappedRange};
 ghost use Rattle.chunk_memory.specs.Spelling.{ReadSpelled, WriteSpelled};
 ghost use Rattle.chunk_memory.specs.Steps.{ReadNext, WriteNext};
@@ -71,6 +72,8 @@ impl<P: ChunkPort> Chunked<P> {
             → MemUnfaulted (P.counts self.old) (P.counts self.new) (result_err result) (P.steady self.new) }
         ensures turns { CostsAtMost (P.told self.old) P.ready P.positive (P.counts self.old) (P.counts self.new)
             (read_turns P.cost P.unit P.most at (length into.old)) }
+        ensures takes { IfExact P.exact (λ turns. MemTakes (read_turns turns P.unit P.most at (length into.old))
+            (P.counts self.old) (P.counts self.new) (result_err result)) }
         ensures told { OnTold (P.told self.old) (P.told self.new)
             (ReadsRange P.one P.refused P.unit P.most at (length into.old) (with_bytes result into.new)) }
         ensures reached { OnTold (P.told self.old) (P.told self.new)
@@ -101,6 +104,8 @@ impl<P: ChunkPort> Chunked<P> {
             → MemUnfaulted (P.counts self.old) (P.counts self.new) (result_err result) (P.steady self.new) }
         ensures turns { CostsAtMost (P.told self.old) P.ready P.positive (P.counts self.old) (P.counts self.new)
             (write_turns P.cost P.unit P.most at (length from.now)) }
+        ensures takes { IfExact P.exact (λ turns. MemTakes (write_turns turns P.unit P.most at (length from.now))
+            (P.counts self.old) (P.counts self.new) (result_err result)) }
         ensures told { OnTold (P.told self.old) (P.told self.new)
             (WritesRange P.one P.refused P.unit P.most at from.now result) }
         ensures reached { OnTold (P.told self.old) (P.told self.new)
@@ -129,6 +134,8 @@ impl<P: ChunkPort> Chunked<P> {
             → MemUnfaulted (P.counts self.old) (P.counts self.new) (result_err result) (P.steady self.new) }
         ensures turns { CostsAtMost (P.told self.old) P.ready P.positive (P.counts self.old) (P.counts self.new)
             (read_turns P.cost P.unit P.most at 8) }
+        ensures takes { IfExact P.exact (λ turns. MemTakes (read_turns turns P.unit P.most at 8)
+            (P.counts self.old) (P.counts self.new) (result_err result)) }
         ensures told { OnTold (P.told self.old) (P.told self.new)
             (ReadsRange P.one P.refused P.unit P.most at 8 (word_bytes result)) }
         ensures reached { OnTold (P.told self.old) (P.told self.new)
@@ -151,6 +158,8 @@ impl<P: ChunkPort> Chunked<P> {
             → MemUnfaulted (P.counts self.old) (P.counts self.new) (result_err result) (P.steady self.new) }
         ensures turns { CostsAtMost (P.told self.old) P.ready P.positive (P.counts self.old) (P.counts self.new)
             (write_turns P.cost P.unit P.most at 8) }
+        ensures takes { IfExact P.exact (λ turns. MemTakes (write_turns turns P.unit P.most at 8)
+            (P.counts self.old) (P.counts self.new) (result_err result)) }
         ensures told { OnTold (P.told self.old) (P.told self.new)
             (WritesRange P.one P.refused P.unit P.most at (to_le_bytes w64 value) result) }
         ensures reached { OnTold (P.told self.old) (P.told self.new)
@@ -171,6 +180,8 @@ impl<P: ChunkPort> Chunked<P> {
             → StaysUnfaulted (P.counts self.old) (P.counts self.new) (result_err result) (P.steady self.new) }
         ensures turns { CostsAtMost (P.told self.old) P.ready P.positive (P.counts self.old) (P.counts self.new)
             (read_turns P.cost P.unit P.most at (length into.old)) }
+        ensures takes { IfExact P.exact (λ turns. PortTakes (read_turns turns P.unit P.most at (length into.old))
+            (P.counts self.old) (P.counts self.new) (result_err result)) }
         ensures told { OnTold (P.told self.old) (P.told self.new)
             (Reads P.one P.refused P.unit P.most at (length into.old) (with_bytes result into.new)) }
         ensures empty { length into.old ≡ 0 → self.new ≡ self.old }
@@ -195,6 +206,8 @@ impl<P: ChunkPort> Chunked<P> {
             → StaysUnfaulted (P.counts self.old) (P.counts self.new) (result_err result) (P.steady self.new) }
         ensures turns { CostsAtMost (P.told self.old) P.ready P.positive (P.counts self.old) (P.counts self.new)
             (write_turns P.cost P.unit P.most at (length from.now)) }
+        ensures takes { IfExact P.exact (λ turns. PortTakes (write_turns turns P.unit P.most at (length from.now))
+            (P.counts self.old) (P.counts self.new) (result_err result)) }
         ensures told { OnTold (P.told self.old) (P.told self.new)
             (Writes P.one P.refused P.unit P.most at from.now result) }
         ensures empty { length from.now ≡ 0 → self.new ≡ self.old }
@@ -223,6 +236,8 @@ impl<P: ChunkPort> Chunked<P> {
             → StaysUnfaulted (P.counts self.old) (P.counts self.new) (result_err result) (P.steady self.new) }
         ensures turns { CostsAtMost (P.told self.old) P.ready P.positive (P.counts self.old) (P.counts self.new)
             (read_step P.cost P.unit P.most at (length into.old)) }
+        ensures takes { IfExact P.exact (λ turns. PortTakes (read_step turns P.unit P.most at (length into.old))
+            (P.counts self.old) (P.counts self.new) (result_err result)) }
         ensures told { OnTold (P.told self.old) (P.told self.new)
             (ReadNext P.one P.refused P.unit P.most at into.new result) }
     {
@@ -250,6 +265,8 @@ impl<P: ChunkPort> Chunked<P> {
             → StaysUnfaulted (P.counts self.old) (P.counts self.new) (result_err result) (P.steady self.new) }
         ensures turns { CostsAtMost (P.told self.old) P.ready P.positive (P.counts self.old) (P.counts self.new)
             (read_step P.cost P.unit P.most at (length into.old)) }
+        ensures takes { IfExact P.exact (λ turns. PortTakes (read_step turns P.unit P.most at (length into.old))
+            (P.counts self.old) (P.counts self.new) (result_err result)) }
         ensures told { OnTold (P.told self.old) (P.told self.new)
             (ReadNext P.one P.refused P.unit P.most at into.new result) }
     {
@@ -279,6 +296,8 @@ impl<P: ChunkPort> Chunked<P> {
             → StaysUnfaulted (P.counts self.old) (P.counts self.new) (result_err result) (P.steady self.new) }
         ensures turns { CostsAtMost (P.told self.old) P.ready P.positive (P.counts self.old) (P.counts self.new)
             (read_step P.cost P.unit P.most at (length into.old)) }
+        ensures takes { IfExact P.exact (λ turns. PortTakes (read_step turns P.unit P.most at (length into.old))
+            (P.counts self.old) (P.counts self.new) (result_err result)) }
         ensures told { OnTold (P.told self.old) (P.told self.new)
             (ReadNext P.one P.refused P.unit P.most at into.new result) }
     {
@@ -304,6 +323,8 @@ impl<P: ChunkPort> Chunked<P> {
             → StaysUnfaulted (P.counts self.old) (P.counts self.new) (result_err result) (P.steady self.new) }
         ensures turns { CostsAtMost (P.told self.old) P.ready P.positive (P.counts self.old) (P.counts self.new)
             (write_step P.cost P.unit P.most at (length from.now)) }
+        ensures takes { IfExact P.exact (λ turns. PortTakes (write_step turns P.unit P.most at (length from.now))
+            (P.counts self.old) (P.counts self.new) (result_err result)) }
         ensures told { OnTold (P.told self.old) (P.told self.new)
             (WriteNext P.one P.refused P.unit P.most at from.now result) }
     {
@@ -331,6 +352,8 @@ impl<P: ChunkPort> Chunked<P> {
             → StaysUnfaulted (P.counts self.old) (P.counts self.new) (result_err result) (P.steady self.new) }
         ensures turns { CostsAtMost (P.told self.old) P.ready P.positive (P.counts self.old) (P.counts self.new)
             (write_step P.cost P.unit P.most at (length from.now)) }
+        ensures takes { IfExact P.exact (λ turns. PortTakes (write_step turns P.unit P.most at (length from.now))
+            (P.counts self.old) (P.counts self.new) (result_err result)) }
         ensures told { OnTold (P.told self.old) (P.told self.new)
             (WriteNext P.one P.refused P.unit P.most at from.now result) }
     {
@@ -362,6 +385,8 @@ impl<P: ChunkPort> Chunked<P> {
             → StaysUnfaulted (P.counts self.old) (P.counts self.new) (result_err result) (P.steady self.new) }
         ensures turns { CostsAtMost (P.told self.old) P.ready P.positive (P.counts self.old) (P.counts self.new)
             (write_step P.cost P.unit P.most at (length from.now)) }
+        ensures takes { IfExact P.exact (λ turns. PortTakes (write_step turns P.unit P.most at (length from.now))
+            (P.counts self.old) (P.counts self.new) (result_err result)) }
         ensures told { OnTold (P.told self.old) (P.told self.new)
             (WriteNext P.one P.refused P.unit P.most at from.now result) }
     {

@@ -1,9 +1,10 @@
 // A port by a wire that moves doublewords.
-ghost use Rattle.std.specs.Prelude.{◌≡◌, ◌≤◌, ◌<◌, ◌+◌, ◌/◌, ℕ, [], Some, length, IfOk, OnOk};
+ghost use Rattle.std.specs.Prelude.{◌≡◌, ◌/◌, Some, length};
 ghost use Rattle.std.specs.Result.{result_err};
 ghost use Rattle.fe_base.specs.Wires.{OnTold};
 ghost use Rattle.chunk_memory.specs.BeatChunks.{DirectOne, DirectRefused, of_wire, wire_counts};
-ghost use Rattle.chunk_memory.specs.Ports.{ChunkRead, ChunkWritten, CostsAtMost, IsChunk, PortCauses, StaysUnfaulted};
+ghost use Rattle.chunk_memory.specs.Ports.{ChunkRead, ChunkWritten, CostsAtMost, IsChunk};
+ghost use Rattle.chunk_memory.specs.Ports.{PortCauses, PortTakes, StaysUnfaulted};
 
 use crate::{ChunkPort, PortStop};
 use byteorder::{ByteOrder, LittleEndian};
@@ -67,9 +68,8 @@ fn read_beats<W: BeatWire>(wire: &mut W, at: u64, into: &mut [u8]) -> Result<(),
         (wire_counts (W.left wire.new) (W.faults wire.new)) (length into.old / 8) }
     ensures told { OnTold (W.told wire.old) (W.told wire.new)
         (ChunkRead (DirectOne W.next) (DirectRefused W.next W.lost) at into.new result) }
-    ensures exact { OnOk result (W.left wire.old ≡ W.left wire.new + length into.old / 8) }
-    ensures most { W.left wire.old ≤ W.left wire.new + length into.old / 8 }
-    ensures spent { result_err result ≡ Some PortStop.Spent → W.left wire.old < length into.old / 8 }
+    ensures takes { PortTakes (length into.old / 8) (wire_counts (W.left wire.old) (W.faults wire.old))
+        (wire_counts (W.left wire.new) (W.faults wire.new)) (result_err result) }
 {
     let mut done = 0;
     while done < into.len() {
@@ -96,9 +96,8 @@ fn write_beats<W: BeatWire>(wire: &mut W, at: u64, from: &[u8]) -> Result<(), Po
         (wire_counts (W.left wire.new) (W.faults wire.new)) (length from.now / 8) }
     ensures told { OnTold (W.told wire.old) (W.told wire.new)
         (ChunkWritten (DirectOne W.next) (DirectRefused W.next W.lost) at from.now result) }
-    ensures exact { OnOk result (W.left wire.old ≡ W.left wire.new + length from.now / 8) }
-    ensures most { W.left wire.old ≤ W.left wire.new + length from.now / 8 }
-    ensures spent { result_err result ≡ Some PortStop.Spent → W.left wire.old < length from.now / 8 }
+    ensures takes { PortTakes (length from.now / 8) (wire_counts (W.left wire.old) (W.faults wire.old))
+        (wire_counts (W.left wire.new) (W.faults wire.new)) (result_err result) }
 {
     let mut done = 0;
     while done < from.len() {
@@ -122,6 +121,8 @@ impl<W: BeatWire> ChunkPort for DirectPort<W> {
     ghost most = { 1024 };
 
     ghost cost = { λ count. count / 8 };
+
+    ghost exact = { Some (λ count. count / 8) };
 
     ghost usable = { W.usable };
 
@@ -174,9 +175,8 @@ impl<W: BeatWire> ChunkPort for DirectPort<W> {
             (wire_counts (W.left self.new) (W.faults self.new)) (length into.old / 8) }
         ensures told { OnTold (W.told self.old) (W.told self.new)
             (ChunkRead (DirectOne W.next) (DirectRefused W.next W.lost) at into.new result) }
-        ensures exact { OnOk result (W.left self.old ≡ W.left self.new + length into.old / 8) }
-        ensures most { W.left self.old ≤ W.left self.new + length into.old / 8 }
-        ensures spent { result_err result ≡ Some PortStop.Spent → W.left self.old < length into.old / 8 }
+        ensures takes { PortTakes (length into.old / 8) (wire_counts (W.left self.old) (W.faults self.old))
+            (wire_counts (W.left self.new) (W.faults self.new)) (result_err result) }
     {
         read_beats(&mut self.wire, at, into)
     }
@@ -196,9 +196,8 @@ impl<W: BeatWire> ChunkPort for DirectPort<W> {
             (wire_counts (W.left self.new) (W.faults self.new)) (length from.now / 8) }
         ensures told { OnTold (W.told self.old) (W.told self.new)
             (ChunkWritten (DirectOne W.next) (DirectRefused W.next W.lost) at from.now result) }
-        ensures exact { OnOk result (W.left self.old ≡ W.left self.new + length from.now / 8) }
-        ensures most { W.left self.old ≤ W.left self.new + length from.now / 8 }
-        ensures spent { result_err result ≡ Some PortStop.Spent → W.left self.old < length from.now / 8 }
+        ensures takes { PortTakes (length from.now / 8) (wire_counts (W.left self.old) (W.faults self.old))
+            (wire_counts (W.left self.new) (W.faults self.new)) (result_err result) }
     {
         write_beats(&mut self.wire, at, from)
     }

@@ -3,7 +3,8 @@ ghost use Rattle.std.specs.Prelude.{◌≡◌, ℕ, List, [], ◌++◌, Option, 
 ghost use Rattle.std.specs.Result.{result_err};
 ghost use Rattle.fe_base.specs.Access.{Access};
 ghost use Rattle.fe_base.specs.Wires.{IfTold, Kept, OnTold};
-ghost use Rattle.chunk_memory.specs.Ports.{ArePortSizes, ChunkRead, ChunkWritten, CostsAtMost, Counts, IsChunk, PortCauses, StaysUnfaulted};
+ghost use Rattle.chunk_memory.specs.Ports.{ArePortSizes, ChunkRead, ChunkWritten, CostsAtMost, Counts, IfExact};
+ghost use Rattle.chunk_memory.specs.Ports.{IsChunk, PortCauses, PortTakes, StaysUnfaulted};
 ghost use Rattle.chunk_memory.specs.Reached.{OneReaches, RefusedReaches};
 ghost use Rattle.chunk_memory.specs.Transactions.{Chunk};
 
@@ -27,6 +28,9 @@ pub trait ChunkPort {
 
     /// How many transactions a chunk of so many bytes takes at most.
     ghost cost: { ℕ → ℕ };
+
+    /// How many transactions a chunk of so many bytes takes that is made, where each that is made takes as many.
+    ghost exact: { Option (ℕ → ℕ) };
 
     /// The port may be called.
     ghost usable: { Self → Type 0 };
@@ -91,6 +95,8 @@ pub trait ChunkPort {
             → StaysUnfaulted (counts self.old) (counts self.new) (result_err result) (steady self.new) }
         ensures turns { CostsAtMost (told self.old) ready positive (counts self.old) (counts self.new)
             (cost (length into.old)) }
+        ensures takes { IfExact exact (λ turns.
+            PortTakes (turns (length into.old)) (counts self.old) (counts self.new) (result_err result)) }
         ensures told { OnTold (told self.old) (told self.new) (ChunkRead one refused at into.new result) };
 
     /// Writes one chunk.
@@ -104,6 +110,8 @@ pub trait ChunkPort {
             → StaysUnfaulted (counts self.old) (counts self.new) (result_err result) (steady self.new) }
         ensures turns { CostsAtMost (told self.old) ready positive (counts self.old) (counts self.new)
             (cost (length from.now)) }
+        ensures takes { IfExact exact (λ turns.
+            PortTakes (turns (length from.now)) (counts self.old) (counts self.new) (result_err result)) }
         ensures told { OnTold (told self.old) (told self.new) (ChunkWritten one refused at from.now result) };
 
     /// Its units and its greatest chunk are as a port's may be.

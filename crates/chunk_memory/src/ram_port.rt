@@ -68,6 +68,8 @@ impl ChunkPort for RamPort<'_> {
 
     ghost cost = { λ _. 0 };
 
+    ghost exact = { Some (λ _. 0) };
+
     ghost usable = { λ _. Unit {0} };
 
     ghost told = { λ p. Some p.bus.now };

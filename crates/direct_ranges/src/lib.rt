@@ -17,7 +17,7 @@ ghost use Rattle.fe_base.specs.Outside.{capacity, PutSuits};
 ghost use Rattle.fe_base.specs.PausePlan.{IsPositive};
 ghost use Rattle.fe_base.specs.Wires.{OnTold};
 ghost use Rattle.chunk_memory.specs.BeatChunks.{DirectOne, DirectRefused, wire_counts};
-ghost use Rattle.chunk_memory.specs.Ports.{CostsAtMost, Maps, MemCauses, MemUnfaulted, with_bytes};
+ghost use Rattle.chunk_memory.specs.Ports.{CostsAtMost, Maps, MemCauses, MemTakes, MemUnfaulted, with_bytes};
 ghost use Rattle.chunk_memory.specs.Reached.{Reached};
 ghost use Rattle.chunk_memory.specs.Spelling.{ReadSpelled, WriteSpelled};
 ghost use Rattle.chunk_memory.specs.Transactions.{ReadsRange, WritesRange};
@@ -57,6 +57,9 @@ pub fn read_over<W: BeatWire>(
         (length into.old) (with_bytes outcome.new into.new)) }
     ensures turns { CostsAtMost (W.told wire) (λ _. Unit {0}) W.positive (wire_counts (W.left wire) (W.faults wire))
         (wire_counts (W.left result) (W.faults result)) (read_turns (λ count. count / 8) 8 1024 at (length into.old)) }
+    ensures takes { MemTakes (read_turns (λ count. count / 8) 8 1024 at (length into.old))
+        (wire_counts (W.left wire) (W.faults wire)) (wire_counts (W.left result) (W.faults result))
+        (result_err outcome.new) }
     ensures unmapped { (place : ℕ) → IsErrOf outcome.new (MemStop.Unmapped place) → result ≡ wire }
     ensures empty { length into.old ≡ 0 → result ≡ wire }
     ensures empty_done { length into.old ≡ 0 → IsOk outcome.new }
@@ -88,6 +91,9 @@ pub fn write_over<W: BeatWire>(
         outcome.new) }
     ensures turns { CostsAtMost (W.told wire) (λ _. Unit {0}) W.positive (wire_counts (W.left wire) (W.faults wire))
         (wire_counts (W.left result) (W.faults result)) (write_turns (λ count. count / 8) 8 1024 at (length from.now)) }
+    ensures takes { MemTakes (write_turns (λ count. count / 8) 8 1024 at (length from.now))
+        (wire_counts (W.left wire) (W.faults wire)) (wire_counts (W.left result) (W.faults result))
+        (result_err outcome.new) }
     ensures unmapped { (place : ℕ) → IsErrOf outcome.new (MemStop.Unmapped place) → result ≡ wire }
     ensures empty { length from.now ≡ 0 → result ≡ wire }
     ensures empty_done { length from.now ≡ 0 → IsOk outcome.new }
@@ -121,6 +127,9 @@ pub fn read_range<R: Sink>(
         (lined target.new (R.held trace.new)) }
     ensures turns { IsPositive target.old.pauses → target.old.limit - target.old.turns
         ≤ target.new.limit - target.new.turns + doublewords_met at (length into.old) }
+    ensures takes { MemTakes (read_turns (λ count. count / 8) 8 1024 at (length into.old))
+        (wire_counts (target.old.limit - target.old.turns) (R.faults trace.old))
+        (wire_counts (target.new.limit - target.new.turns) (R.faults trace.new)) (result_err result) }
     ensures unmapped { (place : ℕ) → IsErrOf result (MemStop.Unmapped place)
         → (target.new ≡ target.old) × (trace.new ≡ trace.old) }
     ensures empty { length into.old ≡ 0 → (target.new ≡ target.old) × (trace.new ≡ trace.old) }
@@ -156,6 +165,9 @@ pub fn write_range<R: Sink>(
         from.now result (lined target.old (R.held trace.old)) (lined target.new (R.held trace.new)) }
     ensures turns { IsPositive target.old.pauses → target.old.limit - target.old.turns
         ≤ target.new.limit - target.new.turns + doublewords_met at (length from.now) + open_ends at (length from.now) }
+    ensures takes { MemTakes (write_turns (λ count. count / 8) 8 1024 at (length from.now))
+        (wire_counts (target.old.limit - target.old.turns) (R.faults trace.old))
+        (wire_counts (target.new.limit - target.new.turns) (R.faults trace.new)) (result_err result) }
     ensures unmapped { (place : ℕ) → IsErrOf result (MemStop.Unmapped place)
         → (target.new ≡ target.old) × (trace.new ≡ trace.old) }
     ensures empty { length from.now ≡ 0 → (target.new ≡ target.old) × (trace.new ≡ trace.old) }

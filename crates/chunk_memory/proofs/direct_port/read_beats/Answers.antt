@@ -1,16 +1,17 @@
-use Rattle.std.proofs.Common.{◌≡◌, ℕ, ◌+◌, ◌-◌, ◌<◌, ◌≤◌, ◌^◌, List, length, take, drop, length-drop, Result, Err, sym, ap, subst, ◌∙◌, arith, rules}
+use Rattle.std.proofs.Common.{◌≡◌, ℕ, ◌+◌, ◌-◌, ◌<◌, ◌≤◌, ◌^◌, List, length, take, drop, length-drop, Result, Err, sym, ap, subst, ◌∙◌, arith, rules, ◌/◌}
 use Rattle.std.proofs.lemmas.List.{take_rest}
 use Rattle.std.proofs.lemmas.Result.{err_from_is_err_and}
 use Rattle.fe_base.specs.Beats.{ReadBeat}
 use Rattle.fe_base.specs.Wires.{OnTold, Asked}
 use Rattle.fe_base.specs.declared.wires.WireStop.{WireStop}
-use Rattle.chunk_memory.proofs.DirectLemmas.{read-one, read-refused, count-one}
+use Rattle.chunk_memory.proofs.DirectLemmas.{read-one, read-refused, count-one, takes-ok, takes-err}
 use Rattle.chunk_memory.proofs.StepLemmas.{put-size}
 use Rattle.chunk_memory.proofs.ToldLemmas.{told-then}
-use Rattle.chunk_memory.specs.BeatChunks.{ReadByBeats, DirectOne, DirectRefused, of_wire}
-use Rattle.chunk_memory.specs.Ports.{ChunkRead}
+use Rattle.chunk_memory.specs.BeatChunks.{ReadByBeats, DirectOne, DirectRefused, of_wire, wire_counts}
+use Rattle.chunk_memory.specs.Ports.{ChunkRead, PortTakes}
 use Rattle.chunk_memory.specs.declared.stops.PortStop.{PortStop}
 use borrow.Rule.Slice.PartMut.{put_mid}
+use Rattle.std.specs.Result.{result_err}
 use Rattle.chunk_memory.proofs.direct_port.read_beats.Goals as goal
 
 pub returns-in_err-value-clause-told : goal.returns-in_err-value-clause-told
@@ -51,3 +52,23 @@ loop-done-preserved g c =
           (λ a m n so_far here. subst (λ (l : List ℕ). ReadByBeats W.next at (take (done + 8) (put_mid done (length bytes - done) bytes l)) a n) (sym c.write_u64.ensures) (read-one W.next at done value bytes rest a m n room small so_far here))
           c.loop-done.invariant.told c.in_ok-value.ensures.told;
     }
+
+pub returns-in_err-value-clause-takes : goal.returns-in_err-value-clause-takes
+returns-in_err-value-clause-takes g c =
+    let W = g.W.BeatWire in
+    let done : ℕ = c.loop-done.done in
+    let count : ℕ = length c.args.into.now in
+    let stop : WireStop = c.in_err-value.field-0.0 in
+    let room : done + 8 ≤ count = omega (arith, c.requires.chunk.whole, c.loop-done.invariant.count.whole, c.loop-done.auto.into, c.loop-done-test.true) in
+    let failed = err_from_is_err_and c.from_residual.result c.from_residual.ensures.1 in
+    subst (λ (r : Result Unit PortStop). PortTakes (count / 8) (wire_counts (W.left c.args.wire.now) (W.faults c.args.wire.now)) (wire_counts (W.left c.read_beat.new.self) (W.faults c.read_beat.new.self)) (result_err r)) (sym (failed.1 ∙ ap Err failed.2))
+    (takes-err ℕ done count (W.left c.args.wire.now) (W.left c.loop-done.wire) (W.left c.read_beat.new.self) (W.faults c.args.wire.now) (W.faults c.loop-done.wire) (W.faults c.read_beat.new.self) stop c.loop-done.invariant.count c.in_err-value.ensures.left room)
+
+pub returns-clause-takes : goal.returns-clause-takes
+returns-clause-takes g c =
+    let W = g.W.BeatWire in
+    let done : ℕ = c.loop-done.done in
+    let count : ℕ = length c.args.into.now in
+    let less : done ≤ count = omega (arith, c.loop-done.auto.into, c.loop-done.invariant.within) in
+    let past : count ≤ done = omega (arith, c.loop-done.auto.into, c.loop-done-test.false) in
+    takes-ok done count (W.left c.args.wire.now) (W.left c.loop-done.wire) (W.faults c.args.wire.now) (W.faults c.loop-done.wire) c.loop-done.invariant.count less past

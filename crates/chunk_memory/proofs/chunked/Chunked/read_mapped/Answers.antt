@@ -2,18 +2,20 @@ use Rattle.chunk_memory.specs.Turns.{read_turns, read_step}
 use Rattle.chunk_memory.specs.Ranges.{IsMappedRange}
 use Rattle.chunk_memory.proofs.TurnSteps.{read-calm}
 use Rattle.chunk_memory.proofs.TurnLemmas.{turns-step}
-use Rattle.std.proofs.Common.{◌≡◌, ℕ, ◌+◌, ◌-◌, ◌<◌, List, length, drop, length-drop, Result, Ok, Err, None, sym, ap, subst, ◌∙◌, arith, take}
+use Rattle.std.proofs.Common.{◌≡◌, ℕ, ◌+◌, ◌-◌, ◌<◌, List, length, drop, length-drop, Result, Ok, Err, None, sym, ap, subst, ◌∙◌, arith, take, Some, refl}
 use Rattle.std.proofs.lemmas.List.{take_rest}
 use Rattle.std.proofs.lemmas.Result.{err_from_is_err_and}
 use Rattle.fe_base.specs.Wires.{OnTold}
 use Rattle.chunk_memory.proofs.SizeLemmas.{mapped-byte, mapped-rest}
 use Rattle.chunk_memory.proofs.StepLemmas.{ReadSoFar, read-on, read-off, read-end, put-size}
 use Rattle.chunk_memory.proofs.ToldLemmas.{told-as, told-then, causes-then, steady-then, told-valid, told-next}
-use Rattle.chunk_memory.specs.Ports.{with_bytes}
+use Rattle.chunk_memory.specs.Ports.{with_bytes, IfExact, PortTakes}
 use Rattle.chunk_memory.specs.Steps.{ReadNext}
 use Rattle.chunk_memory.specs.Transactions.{Reads, step_size}
 use Rattle.chunk_memory.specs.declared.stops.PortStop.{PortStop}
 use borrow.Rule.Slice.PartMut.{put_mid}
+use Rattle.std.specs.Result.{result_err}
+use Rattle.chunk_memory.proofs.TakeLemmas.{exact-by, exact-at, taken-on, taken-off, taken-end}
 use Rattle.chunk_memory.proofs.chunked.Chunked.read_mapped.Goals as goal
 
 pub overflow_add-at : goal.overflow_add-at
@@ -78,6 +80,11 @@ loop-done-preserved g c =
           ∙ ap (λ (n : ℕ). read_turns P.cost P.unit P.most (c.args.at + (done + size)) n) (let p : length bytes - done - size ≡ length (put_mid done (length bytes - done) bytes c.read_next.new.into) - (done + size) = omega (arith, same) in p) in
           let e2 : read_turns P.cost P.unit P.most c.args.at (length bytes) ≡ read_turns P.cost P.unit P.most c.args.at (length (put_mid done (length bytes - done) bytes c.read_next.new.into)) = ap (λ (n : ℕ). read_turns P.cost P.unit P.most c.args.at n) (let p : length bytes ≡ length (put_mid done (length bytes - done) bytes c.read_next.new.into) = omega (arith, same) in p) in
           omega (arith, h, i, s, cost, rest, e1, e2);
+      takes = λ turns is.
+          let h = exact-at P.exact (λ (turns : ℕ → ℕ). PortTakes (read_step turns P.unit P.most (c.args.at + done) (length (take (length bytes - done) (drop done bytes)))) (P.counts c.loop-done.self) (P.counts c.read_next.new.self) None) turns is c.in_ok-size.ensures.takes in
+          let on = taken-on (read_step turns P.unit P.most) P.unit P.most c.in_ok-size.ensures.sizes c.args.at (length bytes) done size (length (take (length bytes - done) (drop done bytes))) (P.counts c.args.self.now).left (P.counts c.loop-done.self).left (P.counts c.read_next.new.self).left less old_long step.0 step.2
+          (c.loop-done.invariant.takes turns is) (h.made refl) in
+          subst (λ (n : ℕ). (P.counts c.args.self.now).left + read_turns turns P.unit P.most (c.args.at + (done + size)) (n - (done + size)) ≡ (P.counts c.read_next.new.self).left + read_turns turns P.unit P.most c.args.at n) (sym same) on;
       steady = steady-then (P.counts c.args.self.now) (P.counts c.loop-done.self) (P.counts c.read_next.new.self) None (P.steady c.args.self.now) (P.steady c.loop-done.self) (P.steady c.read_next.new.self) c.loop-done.invariant.steady c.in_ok-size.ensures.steady;
       told = told-then (P.told c.args.self.now) (P.told c.loop-done.self) (P.told c.read_next.new.self)
           (ReadSoFar P.one P.refused P.unit P.most c.args.at (length bytes) bytes done) (ReadNext P.one P.refused P.unit P.most (c.args.at + done) next (Ok size)) (ReadSoFar P.one P.refused P.unit P.most c.args.at (length after) after (done + size))
@@ -121,3 +128,29 @@ returns-clause-turns g c state told now pos =
     let same : length c.args.into.now ≡ length bytes = sym c.loop-done.auto.into in
     let all : read_turns P.cost P.unit P.most c.args.at (length c.args.into.now) ≡ read_turns P.cost P.unit P.most c.args.at (length bytes) = ap (λ (n : ℕ). read_turns P.cost P.unit P.most c.args.at n) same in
     omega (arith, c.loop-done.invariant.turns state told now pos, all)
+
+pub returns-in_err-size-clause-takes : goal.returns-in_err-size-clause-takes
+returns-in_err-size-clause-takes g c =
+    let P = g.P.ChunkPort in
+    let bytes : List ℕ = c.loop-done.into in
+    let done : ℕ = c.loop-done.done in
+    let stop : PortStop = c.in_err-size.field-0.0 in
+    let same : length c.args.into.now ≡ length bytes = sym c.loop-done.auto.into in
+    let old_long : length (take (length bytes - done) (drop done bytes)) ≡ length bytes - done = ap (λ (l : List ℕ). length l) (take_rest bytes done) ∙ length-drop done bytes in
+    let less : done < length bytes = c.loop-done-test.true in
+    let failed = err_from_is_err_and c.from_residual.result c.from_residual.ensures.1 in
+    subst (λ (r : Result Unit PortStop). IfExact P.exact (λ (turns : ℕ → ℕ). PortTakes (read_turns turns P.unit P.most c.args.at (length c.args.into.now)) (P.counts c.args.self.now) (P.counts c.read_next.new.self) (result_err r))) (sym (failed.1 ∙ ap Err failed.2))
+    (subst (λ (n : ℕ). IfExact P.exact (λ (turns : ℕ → ℕ). PortTakes (read_turns turns P.unit P.most c.args.at (n)) (P.counts c.args.self.now) (P.counts c.read_next.new.self) (Some stop))) (sym same)
+    (exact-by P.exact (λ (turns : ℕ → ℕ). PortTakes (read_turns turns P.unit P.most c.args.at (length bytes)) (P.counts c.args.self.now) (P.counts c.read_next.new.self) (Some stop))
+    (λ turns is. taken-off (read_step turns P.unit P.most) P.unit P.most c.in_err-size.ensures.sizes c.args.at (length bytes) done (length (take (length bytes - done) (drop done bytes))) (P.counts c.args.self.now) (P.counts c.loop-done.self) (P.counts c.read_next.new.self) stop less old_long (c.loop-done.invariant.takes turns is)
+    (exact-at P.exact (λ (turns : ℕ → ℕ). PortTakes (read_step turns P.unit P.most (c.args.at + done) (length (take (length bytes - done) (drop done bytes)))) (P.counts c.loop-done.self) (P.counts c.read_next.new.self) (Some stop)) turns is c.in_err-size.ensures.takes))))
+
+pub returns-clause-takes : goal.returns-clause-takes
+returns-clause-takes g c =
+    let P = g.P.ChunkPort in
+    let bytes : List ℕ = c.loop-done.into in
+    let done : ℕ = c.loop-done.done in
+    let same : length c.args.into.now ≡ length bytes = sym c.loop-done.auto.into in
+    subst (λ (n : ℕ). IfExact P.exact (λ (turns : ℕ → ℕ). PortTakes (read_turns turns P.unit P.most c.args.at (n)) (P.counts c.args.self.now) (P.counts c.loop-done.self) None)) (sym same)
+    (exact-by P.exact (λ (turns : ℕ → ℕ). PortTakes (read_turns turns P.unit P.most c.args.at (length bytes)) (P.counts c.args.self.now) (P.counts c.loop-done.self) None)
+    (λ turns is. taken-end (read_step turns P.unit P.most) P.unit P.most c.args.at (length bytes) done (P.counts c.args.self.now) (P.counts c.loop-done.self) c.loop-done-test.false (c.loop-done.invariant.takes turns is)))

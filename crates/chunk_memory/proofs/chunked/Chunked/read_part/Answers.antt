@@ -1,11 +1,15 @@
-use Rattle.chunk_memory.specs.Ports.{Counts}
-use Rattle.std.proofs.Common.{◌≡◌, ℕ, ◌+◌, ◌-◌, ◌%◌, min, List, ◌++◌, length, take, drop, length-take, length-drop, Option, Ok, refl, sym, ap, subst, ◌∙◌, arith, [], ◌∷◌, Some}
+use Rattle.chunk_memory.specs.Ports.{Counts, IfExact, PortTakes}
+use Rattle.std.proofs.Common.{◌≡◌, ℕ, ◌+◌, ◌-◌, ◌%◌, min, List, ◌++◌, length, take, drop, length-take, length-drop, Option, Ok, refl, sym, ap, subst, ◌∙◌, arith, [], ◌∷◌, Some, None, Result, Err}
 use Rattle.fe_base.specs.Wires.{OnTold}
 use Rattle.chunk_memory.proofs.SizeLemmas.{step_size-part, chunk_size-part, step-fits, unit-bounds}
 use Rattle.chunk_memory.proofs.StepLemmas.{read-step}
 use Rattle.chunk_memory.proofs.ToldLemmas.{told-as}
 use Rattle.chunk_memory.specs.Steps.{ReadNext}
 use Rattle.chunk_memory.specs.Transactions.{ReadChunk, step_size, chunk_size}
+use Rattle.std.specs.Result.{result_err}
+use Rattle.std.proofs.lemmas.Result.{err_from_is_err_and}
+use Rattle.chunk_memory.proofs.TakeLemmas.{takes-as}
+use Rattle.chunk_memory.specs.declared.stops.PortStop.{PortStop}
 use Rattle.chunk_memory.proofs.chunked.Chunked.read_part.Goals as goal
 
 pub returns-clause-told : goal.returns-clause-told
@@ -75,3 +79,36 @@ returns-clause-turns g c state told now pos =
     let left : (P.counts c.args.self.now).left ≡ (P.counts c.self.inside.port).left = ap (λ (k : Counts). k.left) counts in
     let whole : P.cost (chunk_size P.unit P.most c.args.at count) ≡ P.cost P.unit = ap P.cost (chunk_size-part P.unit P.most c.args.at count c.requires.part) in
     omega (arith, c.in_ok-read_chunk.ensures.turns state here now pos, cost, whole, left)
+
+pub returns-in_err-read_chunk-clause-takes : goal.returns-in_err-read_chunk-clause-takes
+returns-in_err-read_chunk-clause-takes g c =
+    let P = g.P.ChunkPort in
+    let counts : P.counts c.args.self.now ≡ P.counts c.self.inside.port = cc in
+    let count : ℕ = length c.args.into.now in
+    let unit : ℕ = c.align-unit.result in
+    let bounds = unit-bounds P.unit P.most c.align-unit.ensures.sizes in
+    let zeros : List ℕ = 0 ∷ 0 ∷ 0 ∷ 0 ∷ 0 ∷ 0 ∷ 0 ∷ 0 ∷ [] in
+    let eight : length zeros ≡ 8 = refl in
+    let buffer : List ℕ = take unit zeros in
+    let long : length buffer ≡ P.unit = omega (arith, length-take unit zeros, c.align-unit.ensures.value) in
+    let asked : length buffer ≡ chunk_size P.unit P.most c.args.at count = long ∙ sym (chunk_size-part P.unit P.most c.args.at count c.requires.part) in
+    let stop : PortStop = c.in_err-read_chunk.field-0.0 in
+    let failed = err_from_is_err_and c.from_residual.result c.from_residual.ensures.1 in
+    subst (λ (r : Result ℕ PortStop). IfExact P.exact (λ (turns : ℕ → ℕ). PortTakes (turns (chunk_size P.unit P.most c.args.at count)) (P.counts c.args.self.now) (P.counts c.read_chunk.new.self) (result_err r))) (sym (failed.1 ∙ ap Err failed.2))
+    (takes-as P.exact (λ (turns : ℕ → ℕ). turns (length buffer)) (λ (turns : ℕ → ℕ). turns (chunk_size P.unit P.most c.args.at count)) (P.counts c.self.inside.port) (P.counts c.args.self.now) (P.counts c.read_chunk.new.self) (Some stop)
+    (λ turns. ap turns asked) counts c.in_err-read_chunk.ensures.takes)
+
+pub returns-clause-takes : goal.returns-clause-takes
+returns-clause-takes g c =
+    let P = g.P.ChunkPort in
+    let counts : P.counts c.args.self.now ≡ P.counts c.self.inside.port = cc in
+    let count : ℕ = length c.args.into.now in
+    let unit : ℕ = c.align-unit.result in
+    let bounds = unit-bounds P.unit P.most c.align-unit.ensures.sizes in
+    let zeros : List ℕ = 0 ∷ 0 ∷ 0 ∷ 0 ∷ 0 ∷ 0 ∷ 0 ∷ 0 ∷ [] in
+    let eight : length zeros ≡ 8 = refl in
+    let buffer : List ℕ = take unit zeros in
+    let long : length buffer ≡ P.unit = omega (arith, length-take unit zeros, c.align-unit.ensures.value) in
+    let asked : length buffer ≡ chunk_size P.unit P.most c.args.at count = long ∙ sym (chunk_size-part P.unit P.most c.args.at count c.requires.part) in
+    takes-as P.exact (λ (turns : ℕ → ℕ). turns (length buffer)) (λ (turns : ℕ → ℕ). turns (chunk_size P.unit P.most c.args.at count)) (P.counts c.self.inside.port) (P.counts c.args.self.now) (P.counts c.read_chunk.new.self) None
+    (λ turns. ap turns asked) counts c.in_ok-read_chunk.ensures.takes

@@ -2,7 +2,7 @@ use Rattle.chunk_memory.specs.Turns.{write_turns, write_step}
 use Rattle.chunk_memory.specs.Ranges.{IsMappedRange}
 use Rattle.chunk_memory.proofs.TurnSteps.{write-calm}
 use Rattle.chunk_memory.proofs.TurnLemmas.{turns-step}
-use Rattle.std.proofs.Common.{◌≡◌, ℕ, ◌+◌, ◌-◌, ◌<◌, List, length, take, drop, length-drop, Result, Ok, Err, None, refl, sym, ap, subst, ◌∙◌, arith}
+use Rattle.std.proofs.Common.{◌≡◌, ℕ, ◌+◌, ◌-◌, ◌<◌, List, length, take, drop, length-drop, Result, Ok, Err, None, refl, sym, ap, subst, ◌∙◌, arith, Some}
 use Rattle.std.proofs.lemmas.List.{take_rest}
 use Rattle.std.proofs.lemmas.Result.{err_from_is_err_and}
 use Rattle.fe_base.specs.Wires.{OnTold}
@@ -12,6 +12,9 @@ use Rattle.chunk_memory.proofs.ToldLemmas.{told-as, told-then, causes-then, stea
 use Rattle.chunk_memory.specs.Steps.{WriteNext}
 use Rattle.chunk_memory.specs.Transactions.{Writes, step_size}
 use Rattle.chunk_memory.specs.declared.stops.PortStop.{PortStop}
+use Rattle.std.specs.Result.{result_err}
+use Rattle.chunk_memory.specs.Ports.{IfExact, PortTakes}
+use Rattle.chunk_memory.proofs.TakeLemmas.{exact-by, exact-at, taken-on, taken-off, taken-end}
 use Rattle.chunk_memory.proofs.chunked.Chunked.write_mapped.Goals as goal
 
 pub overflow_add-at : goal.overflow_add-at
@@ -69,6 +72,11 @@ loop-done-preserved g c =
           ∙ ap (λ (n : ℕ). write_turns P.cost P.unit P.most (c.args.at + (done + size)) n) (let p : length bytes - done - size ≡ length bytes - (done + size) = omega arith in p) in
           let e2 : write_turns P.cost P.unit P.most c.args.at (length bytes) ≡ write_turns P.cost P.unit P.most c.args.at (length bytes) = ap (λ (n : ℕ). write_turns P.cost P.unit P.most c.args.at n) (let p : length bytes ≡ length bytes = omega arith in p) in
           omega (arith, h, i, s, cost, rest, e1, e2);
+      takes = λ turns is.
+          let h = exact-at P.exact (λ (turns : ℕ → ℕ). PortTakes (write_step turns P.unit P.most (c.args.at + done) (length (take (length bytes - done) (drop done bytes)))) (P.counts c.loop-done.self) (P.counts c.write_next.new.self) None) turns is c.in_ok-size.ensures.takes in
+          let on = taken-on (write_step turns P.unit P.most) P.unit P.most c.in_ok-size.ensures.sizes c.args.at (length bytes) done size (length (take (length bytes - done) (drop done bytes))) (P.counts c.args.self.now).left (P.counts c.loop-done.self).left (P.counts c.write_next.new.self).left less old_long step.0 step.2
+          (c.loop-done.invariant.takes turns is) (h.made refl) in
+          on;
       steady = steady-then (P.counts c.args.self.now) (P.counts c.loop-done.self) (P.counts c.write_next.new.self) None (P.steady c.args.self.now) (P.steady c.loop-done.self) (P.steady c.write_next.new.self) c.loop-done.invariant.steady c.in_ok-size.ensures.steady;
       told = told-then (P.told c.args.self.now) (P.told c.loop-done.self) (P.told c.write_next.new.self)
           (WriteSoFar P.one P.refused P.unit P.most c.args.at bytes done) (WriteNext P.one P.refused P.unit P.most (c.args.at + done) (drop done bytes) (Ok size)) (WriteSoFar P.one P.refused P.unit P.most c.args.at bytes (done + size))
@@ -110,3 +118,29 @@ returns-clause-turns g c state told now pos =
     let same : length c.args.from.now ≡ length bytes = refl in
     let all : write_turns P.cost P.unit P.most c.args.at (length c.args.from.now) ≡ write_turns P.cost P.unit P.most c.args.at (length bytes) = ap (λ (n : ℕ). write_turns P.cost P.unit P.most c.args.at n) same in
     omega (arith, c.loop-done.invariant.turns state told now pos, all)
+
+pub returns-in_err-size-clause-takes : goal.returns-in_err-size-clause-takes
+returns-in_err-size-clause-takes g c =
+    let P = g.P.ChunkPort in
+    let bytes : List ℕ = c.args.from.now in
+    let done : ℕ = c.loop-done.done in
+    let stop : PortStop = c.in_err-size.field-0.0 in
+    let same : length c.args.from.now ≡ length bytes = refl in
+    let old_long : length (take (length bytes - done) (drop done bytes)) ≡ length bytes - done = ap (λ (l : List ℕ). length l) (take_rest bytes done) ∙ length-drop done bytes in
+    let less : done < length bytes = c.loop-done-test.true in
+    let failed = err_from_is_err_and c.from_residual.result c.from_residual.ensures.1 in
+    subst (λ (r : Result Unit PortStop). IfExact P.exact (λ (turns : ℕ → ℕ). PortTakes (write_turns turns P.unit P.most c.args.at (length c.args.from.now)) (P.counts c.args.self.now) (P.counts c.write_next.new.self) (result_err r))) (sym (failed.1 ∙ ap Err failed.2))
+    (subst (λ (n : ℕ). IfExact P.exact (λ (turns : ℕ → ℕ). PortTakes (write_turns turns P.unit P.most c.args.at (n)) (P.counts c.args.self.now) (P.counts c.write_next.new.self) (Some stop))) (sym same)
+    (exact-by P.exact (λ (turns : ℕ → ℕ). PortTakes (write_turns turns P.unit P.most c.args.at (length bytes)) (P.counts c.args.self.now) (P.counts c.write_next.new.self) (Some stop))
+    (λ turns is. taken-off (write_step turns P.unit P.most) P.unit P.most c.in_err-size.ensures.sizes c.args.at (length bytes) done (length (take (length bytes - done) (drop done bytes))) (P.counts c.args.self.now) (P.counts c.loop-done.self) (P.counts c.write_next.new.self) stop less old_long (c.loop-done.invariant.takes turns is)
+    (exact-at P.exact (λ (turns : ℕ → ℕ). PortTakes (write_step turns P.unit P.most (c.args.at + done) (length (take (length bytes - done) (drop done bytes)))) (P.counts c.loop-done.self) (P.counts c.write_next.new.self) (Some stop)) turns is c.in_err-size.ensures.takes))))
+
+pub returns-clause-takes : goal.returns-clause-takes
+returns-clause-takes g c =
+    let P = g.P.ChunkPort in
+    let bytes : List ℕ = c.args.from.now in
+    let done : ℕ = c.loop-done.done in
+    let same : length c.args.from.now ≡ length bytes = refl in
+    subst (λ (n : ℕ). IfExact P.exact (λ (turns : ℕ → ℕ). PortTakes (write_turns turns P.unit P.most c.args.at (n)) (P.counts c.args.self.now) (P.counts c.loop-done.self) None)) (sym same)
+    (exact-by P.exact (λ (turns : ℕ → ℕ). PortTakes (write_turns turns P.unit P.most c.args.at (length bytes)) (P.counts c.args.self.now) (P.counts c.loop-done.self) None)
+    (λ turns is. taken-end (write_step turns P.unit P.most) P.unit P.most c.args.at (length bytes) done (P.counts c.args.self.now) (P.counts c.loop-done.self) c.loop-done-test.false (c.loop-done.invariant.takes turns is)))

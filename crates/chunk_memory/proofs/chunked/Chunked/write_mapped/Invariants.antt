@@ -1,4 +1,4 @@
-use Rattle.std.proofs.Common.{length, ◌-◌, ◌≡◌, ◌≤◌, ◌+◌, None, Some}
+use Rattle.std.proofs.Common.{ℕ, length, ◌-◌, ◌≡◌, ◌≤◌, ◌+◌, None, Some}
 use Rattle.fe_base.specs.Wires.{OnTold}
 use Rattle.chunk_memory.specs.Ports.{PortCauses, StaysUnfaulted}
 use Rattle.chunk_memory.proofs.StepLemmas.{WriteSoFar}
@@ -15,6 +15,8 @@ invariant-loop-done g l = record {
   calm : OnTold (g.P.ChunkPort.told l.fn.self) (g.P.ChunkPort.told l.self) (λ a m. g.P.ChunkPort.ready a → g.P.ChunkPort.positive a → g.P.ChunkPort.ready m × g.P.ChunkPort.positive m);
   turns : (state : g.P.ChunkPort.State) → g.P.ChunkPort.told l.fn.self ≡ Some state → g.P.ChunkPort.ready state → g.P.ChunkPort.positive state
       → (g.P.ChunkPort.counts l.fn.self).left + write_turns g.P.ChunkPort.cost g.P.ChunkPort.unit g.P.ChunkPort.most (l.at + l.done) (length l.from - l.done) ≤ (g.P.ChunkPort.counts l.self).left + write_turns g.P.ChunkPort.cost g.P.ChunkPort.unit g.P.ChunkPort.most l.at (length l.from);
+  takes : (turns : ℕ → ℕ) → g.P.ChunkPort.exact ≡ Some turns
+      → (g.P.ChunkPort.counts l.fn.self).left + write_turns turns g.P.ChunkPort.unit g.P.ChunkPort.most (l.at + l.done) (length l.from - l.done) ≡ (g.P.ChunkPort.counts l.self).left + write_turns turns g.P.ChunkPort.unit g.P.ChunkPort.most l.at (length l.from);
   told : OnTold (g.P.ChunkPort.told l.fn.self) (g.P.ChunkPort.told l.self) (WriteSoFar g.P.ChunkPort.one g.P.ChunkPort.refused g.P.ChunkPort.unit g.P.ChunkPort.most l.at l.from l.done);
   empty : length l.from ≡ 0 → l.self ≡ l.fn.self;
 }

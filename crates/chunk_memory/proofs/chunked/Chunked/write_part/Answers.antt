@@ -1,7 +1,7 @@
 use Rattle.chunk_memory.specs.Turns.{write_step}
 use Rattle.chunk_memory.proofs.TurnLemmas.{write_step-part}
-use Rattle.chunk_memory.specs.Ports.{Counts, IsChunk}
-use Rattle.std.proofs.Common.{◌≡◌, ℕ, ◌+◌, ◌-◌, ◌%◌, min, List, [], ◌∷◌, length, take, length-take, Option, Result, Ok, Err, refl, sym, ap, subst, ◌∙◌, arith, Some}
+use Rattle.chunk_memory.specs.Ports.{Counts, IsChunk, IfExact, PortTakes}
+use Rattle.std.proofs.Common.{◌≡◌, ℕ, ◌+◌, ◌-◌, ◌%◌, min, List, [], ◌∷◌, length, take, length-take, Option, Result, Ok, Err, refl, sym, ap, subst, ◌∙◌, arith, Some, None, ◌≤◌}
 use Rattle.std.proofs.lemmas.Result.{err_from_is_err_and}
 use Rattle.fe_base.specs.Wires.{OnTold}
 use Rattle.guest_memory.specs.Memory.{with_part}
@@ -11,6 +11,8 @@ use Rattle.chunk_memory.proofs.ToldLemmas.{told-as, told-then, told-next, if-tol
 use Rattle.chunk_memory.specs.Steps.{WriteNext}
 use Rattle.chunk_memory.specs.Transactions.{ReadChunk, WriteChunk, step_size}
 use Rattle.chunk_memory.specs.declared.stops.PortStop.{PortStop}
+use Rattle.std.specs.Result.{result_err}
+use Rattle.chunk_memory.proofs.TakeLemmas.{takes-as, takes-less, takes-then, exact-as, exact-then}
 use Rattle.chunk_memory.proofs.chunked.Chunked.write_part.Goals as goal
 
 pub returns-in_err-read_chunk-clause-told : goal.returns-in_err-read_chunk-clause-told
@@ -182,3 +184,64 @@ returns-clause-turns g c state told now pos =
     let put_size : length c.put_part.new.whole ≡ P.unit = c.put_part.auto.whole ∙ old_size in
     let cost_put : P.cost (length c.put_part.new.whole) ≡ P.cost P.unit = ap P.cost put_size in
     omega (arith, c.in_ok-read_chunk.ensures.turns state here now pos, h, cost, cost_put, step, left)
+
+pub returns-in_err-read_chunk-clause-takes : goal.returns-in_err-read_chunk-clause-takes
+returns-in_err-read_chunk-clause-takes g c =
+    let P = g.P.ChunkPort in
+    let counts : P.counts c.args.self.now ≡ P.counts c.self.inside.port = cc in
+    let count : ℕ = length c.args.from.now in
+    let unit : ℕ = c.align-unit.result in
+    let bounds = unit-bounds P.unit P.most c.align-unit.ensures.sizes in
+    let zeros : List ℕ = 0 ∷ 0 ∷ 0 ∷ 0 ∷ 0 ∷ 0 ∷ 0 ∷ 0 ∷ [] in
+    let eight : length zeros ≡ 8 = refl in
+    let buffer : List ℕ = take unit zeros in
+    let long : length buffer ≡ P.unit = omega (arith, length-take unit zeros, c.align-unit.ensures.value) in
+    let stop : PortStop = c.in_err-read_chunk.field-0.0 in
+    let failed = err_from_is_err_and c.from_residual.result c.from_residual.ensures.1 in
+    let one = takes-as P.exact (λ (turns : ℕ → ℕ). turns (length buffer)) (λ (turns : ℕ → ℕ). turns P.unit) (P.counts c.self.inside.port) (P.counts c.args.self.now) (P.counts c.read_chunk.new.self) (Some stop) (λ turns. ap turns long) counts c.in_err-read_chunk.ensures.takes in
+    subst (λ (r : Result ℕ PortStop). IfExact P.exact (λ (turns : ℕ → ℕ). PortTakes (write_step turns P.unit P.most c.args.at count) (P.counts c.args.self.now) (P.counts c.read_chunk.new.self) (result_err r))) (sym (failed.1 ∙ ap Err failed.2))
+    (exact-as P.exact (λ (turns : ℕ → ℕ). PortTakes (turns P.unit) (P.counts c.args.self.now) (P.counts c.read_chunk.new.self) (Some stop)) (λ (turns : ℕ → ℕ). PortTakes (write_step turns P.unit P.most c.args.at count) (P.counts c.args.self.now) (P.counts c.read_chunk.new.self) (Some stop))
+    (λ turns h.
+    let less : turns P.unit ≤ write_step turns P.unit P.most c.args.at count = omega (arith, write_step-part turns P.unit P.most c.args.at count c.requires.part) in
+    takes-less (turns P.unit) (write_step turns P.unit P.most c.args.at count) (P.counts c.args.self.now) (P.counts c.read_chunk.new.self) stop less h) one)
+
+pub returns-in_err-write_chunk-clause-takes : goal.returns-in_err-write_chunk-clause-takes
+returns-in_err-write_chunk-clause-takes g c =
+    let P = g.P.ChunkPort in
+    let counts : P.counts c.args.self.now ≡ P.counts c.self.inside.port = cc in
+    let count : ℕ = length c.args.from.now in
+    let unit : ℕ = c.align-unit.result in
+    let bounds = unit-bounds P.unit P.most c.align-unit.ensures.sizes in
+    let zeros : List ℕ = 0 ∷ 0 ∷ 0 ∷ 0 ∷ 0 ∷ 0 ∷ 0 ∷ 0 ∷ [] in
+    let eight : length zeros ≡ 8 = refl in
+    let buffer : List ℕ = take unit zeros in
+    let long : length buffer ≡ P.unit = omega (arith, length-take unit zeros, c.align-unit.ensures.value) in
+    let old : List ℕ = c.read_chunk.new.into in
+    let old_size : length old ≡ P.unit = c.read_chunk.auto.into ∙ long in
+    let stop : PortStop = c.in_err-write_chunk.field-0.0 in
+    let failed = err_from_is_err_and c.from_residual-in_err-write_chunk.result c.from_residual-in_err-write_chunk.ensures.1 in
+    let put_size : length c.put_part.new.whole ≡ P.unit = c.put_part.auto.whole ∙ old_size in
+    let one = takes-as P.exact (λ (turns : ℕ → ℕ). turns (length buffer)) (λ (turns : ℕ → ℕ). turns P.unit) (P.counts c.self.inside.port) (P.counts c.args.self.now) (P.counts c.read_chunk.new.self) None (λ turns. ap turns long) counts c.in_ok-read_chunk.ensures.takes in
+    let two = takes-as P.exact (λ (turns : ℕ → ℕ). turns (length c.put_part.new.whole)) (λ (turns : ℕ → ℕ). turns P.unit) (P.counts c.read_chunk.new.self) (P.counts c.read_chunk.new.self) (P.counts c.write_chunk.new.self) (Some stop) (λ turns. ap turns put_size) refl c.in_err-write_chunk.ensures.takes in
+    subst (λ (r : Result ℕ PortStop). IfExact P.exact (λ (turns : ℕ → ℕ). PortTakes (write_step turns P.unit P.most c.args.at count) (P.counts c.args.self.now) (P.counts c.write_chunk.new.self) (result_err r))) (sym (failed.1 ∙ ap Err failed.2))
+    (exact-then P.exact (λ (turns : ℕ → ℕ). PortTakes (turns P.unit) (P.counts c.args.self.now) (P.counts c.read_chunk.new.self) None) (λ (turns : ℕ → ℕ). PortTakes (turns P.unit) (P.counts c.read_chunk.new.self) (P.counts c.write_chunk.new.self) (Some stop)) (λ (turns : ℕ → ℕ). PortTakes (write_step turns P.unit P.most c.args.at count) (P.counts c.args.self.now) (P.counts c.write_chunk.new.self) (Some stop))
+    (λ turns h k. subst (λ (n : ℕ). PortTakes n (P.counts c.args.self.now) (P.counts c.write_chunk.new.self) (Some stop)) (sym (write_step-part turns P.unit P.most c.args.at count c.requires.part)) (takes-then (turns P.unit) (turns P.unit) (P.counts c.args.self.now) (P.counts c.read_chunk.new.self) (P.counts c.write_chunk.new.self) (Some stop) h k)) one two)
+
+pub returns-clause-takes : goal.returns-clause-takes
+returns-clause-takes g c =
+    let P = g.P.ChunkPort in
+    let counts : P.counts c.args.self.now ≡ P.counts c.self.inside.port = cc in
+    let count : ℕ = length c.args.from.now in
+    let unit : ℕ = c.align-unit.result in
+    let bounds = unit-bounds P.unit P.most c.align-unit.ensures.sizes in
+    let zeros : List ℕ = 0 ∷ 0 ∷ 0 ∷ 0 ∷ 0 ∷ 0 ∷ 0 ∷ 0 ∷ [] in
+    let eight : length zeros ≡ 8 = refl in
+    let buffer : List ℕ = take unit zeros in
+    let long : length buffer ≡ P.unit = omega (arith, length-take unit zeros, c.align-unit.ensures.value) in
+    let old : List ℕ = c.read_chunk.new.into in
+    let old_size : length old ≡ P.unit = c.read_chunk.auto.into ∙ long in
+    let put_size : length c.put_part.new.whole ≡ P.unit = c.put_part.auto.whole ∙ old_size in
+    let one = takes-as P.exact (λ (turns : ℕ → ℕ). turns (length buffer)) (λ (turns : ℕ → ℕ). turns P.unit) (P.counts c.self.inside.port) (P.counts c.args.self.now) (P.counts c.read_chunk.new.self) None (λ turns. ap turns long) counts c.in_ok-read_chunk.ensures.takes in
+    let two = takes-as P.exact (λ (turns : ℕ → ℕ). turns (length c.put_part.new.whole)) (λ (turns : ℕ → ℕ). turns P.unit) (P.counts c.read_chunk.new.self) (P.counts c.read_chunk.new.self) (P.counts c.write_chunk.new.self) None (λ turns. ap turns put_size) refl c.in_ok-write_chunk.ensures.takes in
+    (exact-then P.exact (λ (turns : ℕ → ℕ). PortTakes (turns P.unit) (P.counts c.args.self.now) (P.counts c.read_chunk.new.self) None) (λ (turns : ℕ → ℕ). PortTakes (turns P.unit) (P.counts c.read_chunk.new.self) (P.counts c.write_chunk.new.self) None) (λ (turns : ℕ → ℕ). PortTakes (write_step turns P.unit P.most c.args.at count) (P.counts c.args.self.now) (P.counts c.write_chunk.new.self) None)
+    (λ turns h k. subst (λ (n : ℕ). PortTakes n (P.counts c.args.self.now) (P.counts c.write_chunk.new.self) None) (sym (write_step-part turns P.unit P.most c.args.at count c.requires.part)) (takes-then (turns P.unit) (turns P.unit) (P.counts c.args.self.now) (P.counts c.read_chunk.new.self) (P.counts c.write_chunk.new.self) None h k)) one two)

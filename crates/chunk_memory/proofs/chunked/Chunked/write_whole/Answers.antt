@@ -1,8 +1,8 @@
 use Rattle.chunk_memory.specs.Turns.{write_step}
 use Rattle.chunk_memory.proofs.TurnLemmas.{write_step-whole}
-use Rattle.chunk_memory.specs.Ports.{CostsAtMost, Counts}
+use Rattle.chunk_memory.specs.Ports.{CostsAtMost, Counts, IfExact, PortTakes}
 use Rattle.std.proofs.lemmas.List.{length-take-le}
-use Rattle.std.proofs.Common.{◌≡◌, ℕ, ◌*◌, ◌/◌, min, List, [], ◌∷◌, length, take, Option, Result, Ok, Err, refl, sym, ap, subst, ◌∙◌, arith}
+use Rattle.std.proofs.Common.{◌≡◌, ℕ, ◌*◌, ◌/◌, min, List, [], ◌∷◌, length, take, Option, Result, Ok, Err, refl, sym, ap, subst, ◌∙◌, arith, None, Some}
 use Rattle.std.proofs.lemmas.Result.{err_from_is_err_and}
 use Rattle.chunk_memory.proofs.SizeLemmas.{step_size-whole, step-fits, chunk_size-whole}
 use Rattle.chunk_memory.proofs.StepLemmas.{whole-step, cut-first}
@@ -11,6 +11,8 @@ use Rattle.fe_base.specs.Wires.{OnTold}
 use Rattle.chunk_memory.specs.Steps.{WriteNext}
 use Rattle.chunk_memory.specs.Transactions.{WriteChunk, step_size, chunk_size}
 use Rattle.chunk_memory.specs.declared.stops.PortStop.{PortStop}
+use Rattle.std.specs.Result.{result_err}
+use Rattle.chunk_memory.proofs.TakeLemmas.{takes-as}
 use Rattle.chunk_memory.proofs.chunked.Chunked.write_whole.Goals as goal
 
 pub returns-in_err-write_chunk-clause-told : goal.returns-in_err-write_chunk-clause-told
@@ -81,3 +83,36 @@ returns-clause-turns g c =
     subst (λ (n : ℕ). CostsAtMost (P.told c.args.self.now) P.ready P.positive (P.counts c.args.self.now) (P.counts c.write_chunk.new.self) n) cost
     (subst (λ (k : Counts). CostsAtMost (P.told c.args.self.now) P.ready P.positive k (P.counts c.write_chunk.new.self) (P.cost (length (take size c.args.from.now)))) (sym counts)
     (subst (λ (o : Option P.State). CostsAtMost o P.ready P.positive (P.counts c.self.inside.port) (P.counts c.write_chunk.new.self) (P.cost (length (take size c.args.from.now)))) (sym same) c.in_ok-write_chunk.ensures.turns))
+
+pub returns-in_err-write_chunk-clause-takes : goal.returns-in_err-write_chunk-clause-takes
+returns-in_err-write_chunk-clause-takes g c =
+    let P = g.P.ChunkPort in
+    let counts : P.counts c.args.self.now ≡ P.counts c.self.inside.port = cc in
+    let count : ℕ = length c.args.from.now in
+    let size : ℕ = c.min-size.result in
+    let size_is : size ≡ min (count / P.unit * P.unit) P.most =
+    c.min-size.ensures ∙ ap (λ (u : ℕ). min (count / u * u) c.largest-largest.result) c.align-unit.ensures.value ∙ ap (λ (m : ℕ). min (count / P.unit * P.unit) m) c.largest-largest.ensures.value in
+    let fits = step-fits P.unit P.most c.args.at count c.align-unit.ensures.sizes c.requires.some in
+    let step : step_size P.unit P.most c.args.at count ≡ size = step_size-whole P.unit P.most c.args.at count c.requires.whole ∙ sym size_is in
+    let long : length (take size c.args.from.now) ≡ chunk_size P.unit P.most c.args.at count =
+    length-take-le size c.args.from.now (omega (arith, fits.within)) ∙ size_is ∙ sym (chunk_size-whole P.unit P.most c.args.at count c.requires.whole) in
+    let stop : PortStop = c.in_err-write_chunk.field-0.0 in
+    let failed = err_from_is_err_and c.from_residual.result c.from_residual.ensures.1 in
+    subst (λ (r : Result ℕ PortStop). IfExact P.exact (λ (turns : ℕ → ℕ). PortTakes (write_step turns P.unit P.most c.args.at count) (P.counts c.args.self.now) (P.counts c.write_chunk.new.self) (result_err r))) (sym (failed.1 ∙ ap Err failed.2))
+    (takes-as P.exact (λ (turns : ℕ → ℕ). turns (length (take size c.args.from.now))) (λ (turns : ℕ → ℕ). write_step turns P.unit P.most c.args.at count) (P.counts c.self.inside.port) (P.counts c.args.self.now) (P.counts c.write_chunk.new.self) (Some stop)
+    (λ turns. ap turns long ∙ sym (write_step-whole turns P.unit P.most c.args.at count c.requires.whole)) counts c.in_err-write_chunk.ensures.takes)
+
+pub returns-clause-takes : goal.returns-clause-takes
+returns-clause-takes g c =
+    let P = g.P.ChunkPort in
+    let counts : P.counts c.args.self.now ≡ P.counts c.self.inside.port = cc in
+    let count : ℕ = length c.args.from.now in
+    let size : ℕ = c.min-size.result in
+    let size_is : size ≡ min (count / P.unit * P.unit) P.most =
+    c.min-size.ensures ∙ ap (λ (u : ℕ). min (count / u * u) c.largest-largest.result) c.align-unit.ensures.value ∙ ap (λ (m : ℕ). min (count / P.unit * P.unit) m) c.largest-largest.ensures.value in
+    let fits = step-fits P.unit P.most c.args.at count c.align-unit.ensures.sizes c.requires.some in
+    let step : step_size P.unit P.most c.args.at count ≡ size = step_size-whole P.unit P.most c.args.at count c.requires.whole ∙ sym size_is in
+    let long : length (take size c.args.from.now) ≡ chunk_size P.unit P.most c.args.at count =
+    length-take-le size c.args.from.now (omega (arith, fits.within)) ∙ size_is ∙ sym (chunk_size-whole P.unit P.most c.args.at count c.requires.whole) in
+    takes-as P.exact (λ (turns : ℕ → ℕ). turns (length (take size c.args.from.now))) (λ (turns : ℕ → ℕ). write_step turns P.unit P.most c.args.at count) (P.counts c.self.inside.port) (P.counts c.args.self.now) (P.counts c.write_chunk.new.self) None
+    (λ turns. ap turns long ∙ sym (write_step-whole turns P.unit P.most c.args.at count c.requires.whole)) counts c.in_ok-write_chunk.ensures.takes
