@@ -2,7 +2,7 @@
 use Rattle.std.specs.Prelude.{◌≡◌, ◌≤◌, ℕ, List, take, drop, length, Option, Some, None, Result, Ok, Err, IfOk, IsOk}
 use Rattle.std.specs.Prelude.{IsErrOf, option_map}
 use Rattle.std.specs.Result.{result_err}
-use Rattle.chunk_memory.specs.Ports.{CostsAtMost, Maps, MemCauses, MemUnfaulted}
+use Rattle.chunk_memory.specs.Ports.{CostsAtMost, IfExact, Maps, MemCauses, MemTakes, MemUnfaulted}
 use Rattle.chunk_memory.specs.Spelling.{ReadSpelled, WriteSpelled}
 use Rattle.chunk_memory.specs.Transactions.{ReadsRange, WritesRange}
 use Rattle.chunk_memory.specs.Turns.{read_turns, write_turns}
@@ -18,6 +18,7 @@ use Rattle.fe_base.specs.declared.outside.Sink as sink
 use Rattle.folder_tree.specs.Answers.{Answers, HasCauses, Suits, StaysSteady as StaysSteadyFolder}
 use Rattle.folder_tree.specs.declared.folder.FolderStop.{FolderStop}
 use Rattle.folder_tree.specs.declared.folder.Folder as folder
+use Rattle.guest_memory.specs.Memory.{AreBytes}
 use Rattle.host_text.specs.Text.{Query, Reply, row_of}
 use Rattle.host_text.specs.Played.{Acts}
 use Rattle.host_text.specs.Runs.{ReplyFits}
@@ -25,12 +26,15 @@ use Rattle.host_text.specs.Runs.{ReplyFits}
 -- what one read of a range of memory did, over this port
 pub record HasRead {P : Type 0} (d : port.Ghosts P) (p p' : P) (place count : ℕ) (r : Result (List ℕ) MemStop)
     : Type 0 where
+  pub usable : d.usable p'
   pub kept : d.kept p' ≡ d.kept p
   pub maps : Maps place count (result_err r)
   pub causes : MemCauses (d.counts p) (d.counts p') (result_err r)
   pub steady : d.steady p → MemUnfaulted (d.counts p) (d.counts p') (result_err r) (d.steady p')
   pub turns : CostsAtMost (d.told p) d.ready d.positive (d.counts p) (d.counts p')
       (read_turns d.cost d.unit d.most place count)
+  pub takes : IfExact d.exact
+      (λ turns. MemTakes (read_turns turns d.unit d.most place count) (d.counts p) (d.counts p') (result_err r))
   pub told : OnTold (d.told p) (d.told p') (ReadsRange d.one d.refused d.unit d.most place count r)
   pub reached : OnTold (d.told p) (d.told p')
       (λ a b. d.ready a → ReadSpelled d.view d.stands d.ready d.positive d.ran d.reached d.unit place count r a b)
@@ -42,12 +46,16 @@ pub record HasRead {P : Type 0} (d : port.Ghosts P) (p p' : P) (place count : �
 -- what one write of a range of memory did, over this port
 pub record HasWritten {P : Type 0} (d : port.Ghosts P) (p p' : P) (place : ℕ) (from : List ℕ) (r : Result Unit MemStop)
     : Type 0 where
+  pub usable : d.usable p'
+  pub are_bytes : AreBytes from
   pub kept : d.kept p' ≡ d.kept p
   pub maps : Maps place (length from) (result_err r)
   pub causes : MemCauses (d.counts p) (d.counts p') (result_err r)
   pub steady : d.steady p → MemUnfaulted (d.counts p) (d.counts p') (result_err r) (d.steady p')
   pub turns : CostsAtMost (d.told p) d.ready d.positive (d.counts p) (d.counts p')
       (write_turns d.cost d.unit d.most place (length from))
+  pub takes : IfExact d.exact
+      (λ turns. MemTakes (write_turns turns d.unit d.most place (length from)) (d.counts p) (d.counts p') (result_err r))
   pub told : OnTold (d.told p) (d.told p') (WritesRange d.one d.refused d.unit d.most place from r)
   pub reached : OnTold (d.told p) (d.told p')
       (λ a b. d.ready a → WriteSpelled d.view d.stands d.ready d.positive d.ran d.reached d.unit place from r a b)

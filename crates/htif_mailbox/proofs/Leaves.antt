@@ -5,12 +5,14 @@ use Rattle.std.specs.Int.{to_le_bytes, from_le_bytes, w64}
 use Rattle.std.specs.List.{slice_get}
 use Rattle.std.proofs.lemmas.Bool.Decides.{nat_tests}
 use Rattle.std.proofs.lemmas.Nat.{from_le_bytes-to_le_bytes_8}
+use Rattle.chunk_memory.proofs.WordLemmas.{word-small}
 use Rattle.chunk_memory.specs.declared.port.ChunkPort as port
 use Rattle.chunk_memory.specs.declared.stops.MemStop.{MemStop}
 use Rattle.fe_base.specs.declared.outside.Failed.{Failed}
 use Rattle.fe_base.specs.declared.outside.Source as source
 use Rattle.fe_base.specs.declared.outside.Sink as sink
 use Rattle.folder_tree.specs.declared.folder.Folder as folder
+use Rattle.guest_memory.specs.Memory.{AreBytes}
 use Rattle.host_text.specs.Outside.{HasTaken, HasPut, acts}
 use Rattle.host_text.specs.Played.{Acts, At, at, Played, ended, has_read, has_taken, take_stopped, has_put, put_stopped, noted}
 use Rattle.host_text.specs.Text.{Text, Done, Read}
@@ -29,6 +31,10 @@ use Rattle.htif_mailbox.specs.declared.commands.Command.{Command}
 use Rattle.htif_mailbox.specs.declared.commands.Command.TheVariants.{TakeByte, PutByte}
 
 -- ---- words
+
+-- those of a doubleword are bytes
+pub word_are_bytes : (word : ℕ) → AreBytes (to_le_bytes w64 word)
+word_are_bytes word = word-small word
 
 -- a doubleword was read, and the text goes on by its number
 pub word-read : {X F I C H A E : Type 0} {o : Acts X F I C} {place : ℕ} {stop : MemStop → E} (word : ℕ) (k : ℕ → Text H A E) {s s' : At X F I C H} {r : Result A E} {x : X}

@@ -1,6 +1,6 @@
--- What a word in tohost asks for: bits 63 to 56 are the device, 55 to 48 its command, the others the payload (riscv-isa-sim,
--- fesvr/device.h).
-use Rattle.std.specs.Prelude.{ℕ, ◌/◌, ◌%◌, ◌^◌, ◌==◌, if◌then◌else◌}
+-- What a word in tohost asks for, by its device, its command and its payload (riscv-isa-sim, fesvr/device.h).
+use Rattle.std.specs.Prelude.{ℕ, ◌/◌, ◌%◌, ◌==◌, ◌&&◌, if◌then◌else◌}
+use Rattle.fe_base.specs.HostWords.{device_of, command_of as command_number, payload_of}
 use Rattle.htif_mailbox.specs.declared.commands.Command.{Command}
 use Rattle.htif_mailbox.specs.declared.commands.Command.TheVariants.{Exit, Call, TakeByte, PutByte, Unknown}
 
@@ -8,14 +8,14 @@ use Rattle.htif_mailbox.specs.declared.commands.Command.TheVariants.{Exit, Call,
 abbrev pub by_payload : ℕ → Command
 by_payload payload = if payload % 2 == 1 then Exit (payload / 2 % 256) else Call payload
 
--- device and command together, and the payload: system calls, and the console's byte in and byte out
-abbrev pub by_device : ℕ → ℕ → Command
-by_device device payload =
-    if device == 0 then by_payload payload
-    else if device == 0x100 then TakeByte
-    else if device == 0x101 then PutByte (payload % 256)
+-- command 0 of device 0 is a system call or the exit; device 1 is the console, whose command 0 takes a byte and 1 puts one
+abbrev pub by_device : ℕ → ℕ → ℕ → Command
+by_device device command payload =
+    if device == 0 && command == 0 then by_payload payload
+    else if device == 1 && command == 0 then TakeByte
+    else if device == 1 && command == 1 then PutByte (payload % 256)
     else Unknown
 
 -- what a word asks for
 unfoldable pub command_of : ℕ → Command
-command_of word = by_device (word / 2 ^ 48) (word % 2 ^ 48)
+command_of word = by_device (device_of word) (command_number word) (payload_of word)

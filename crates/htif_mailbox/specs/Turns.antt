@@ -1,7 +1,8 @@
 -- A host turn, as texts: what a mailbox does with the word in tohost, and with its answers for fromhost.
-use Rattle.std.specs.Prelude.{ℕ, ◌+◌, ◌^◌, ◌==◌, nat_lt, if◌then◌else◌, Bool, true, false, List, [], ◌∷◌, ◌++◌, length, drop}
+use Rattle.std.specs.Prelude.{ℕ, ◌+◌, ◌==◌, nat_lt, if◌then◌else◌, Bool, true, false, List, [], ◌∷◌, ◌++◌, length, drop}
 use Rattle.std.specs.Int.{to_le_bytes, from_le_bytes, w64}
 use Rattle.chunk_memory.specs.declared.stops.MemStop.{MemStop}
+use Rattle.fe_base.specs.HostWords.{from_host}
 use Rattle.host_text.specs.Text.{Text, Done, Fail, Read, Write, Take, Put, Note, Look, then_do}
 use Rattle.syscall_proxy.specs.CallTable.{call_row}
 use Rattle.syscall_proxy.specs.Kept.{Kept, Setting, acts, rests}
@@ -31,7 +32,7 @@ call_answer = 1
 
 -- what is answered to a byte that was taken: device 1, command 0, and the byte above 0xff
 abbrev pub byte_answer : ℕ → ℕ
-byte_answer byte = 2 ^ 56 + 0x100 + byte
+byte_answer byte = from_host 1 0 (0x100 + byte)
 
 -- one more answer waits
 abbrev pub awaits : ℕ → Kept → Kept

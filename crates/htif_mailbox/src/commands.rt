@@ -2,6 +2,8 @@
 ghost use Rattle.std.specs.Prelude.{◌≡◌};
 ghost use Rattle.htif_mailbox.specs.Commands.{command_of as command_in};
 
+use fe_base::ToHost;
+
 /// What a word asks for.
 #[derive(Clone, Copy, Debug, PartialEq, Eq)]
 pub(crate) enum Command {
@@ -22,12 +24,13 @@ pub(crate) enum Command {
 pub(crate) fn command_of(word: u64) -> Command
     ensures { result ≡ command_in word }
 {
-    let payload = word % (1 << 48);
-    match word >> 48 {
-        0 if payload % 2 == 1 => Command::Exit((payload / 2 % 256) as u8),
-        0 => Command::Call(payload),
-        0x100 => Command::TakeByte,
-        0x101 => Command::PutByte((payload % 256) as u8),
+    let word = ToHost(word);
+    let payload = word.payload();
+    match (word.device(), word.command()) {
+        (0, 0) if payload % 2 == 1 => Command::Exit((payload / 2 % 256) as u8),
+        (0, 0) => Command::Call(payload),
+        (1, 0) => Command::TakeByte,
+        (1, 1) => Command::PutByte((payload % 256) as u8),
         _ => Command::Unknown,
     }
 }

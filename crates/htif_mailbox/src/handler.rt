@@ -17,17 +17,22 @@ use crate::commands::{Command, command_of};
 use crate::outside;
 use arrayvec::ArrayVec;
 use chunk_memory::{ChunkPort, Chunked, MemStop};
-use fe_base::{Sink, Source};
+use fe_base::{Sink, Source, from_host};
 use folder_tree::Folder;
 use syscall_proxy::{CallAnswer, CallFault, Host, request_of};
 
 /// The most answers that wait for the guest; while so many do, tohost is not read.
 pub(crate) const MOST_WAITING: usize = 16;
 
-// What is answered to a system call, and to a byte of input with the byte added.
+// What is answered to a system call.
 const CALL_ANSWER: u64 = 1;
 
-const BYTE_ANSWER: u64 = (1 << 56) + 0x100;
+// The console, the command of it that takes a byte, and what is answered to that with the byte added.
+const CONSOLE: u8 = 1;
+
+const TAKE_BYTE: u8 = 0;
+
+const BYTE_TAKEN: u64 = 0x100;
 
 /// A host with the answers that wait for its guest, the oldest first, and whether its last command acted.
 #[derive(Drop)]
@@ -105,7 +110,8 @@ impl Handler {
         let byte = outside::take(input).map_err(|_| MailFault::Call(CallFault::InputFault))?;
         self.acted = true;
         if let Some(byte) = byte {
-            self.waiting.push(BYTE_ANSWER + u64::from(byte));
+            let answer = from_host(CONSOLE, TAKE_BYTE, BYTE_TAKEN + u64::from(byte));
+            self.waiting.push(answer);
         }
         Ok(Turned::Served)
     }

@@ -24,6 +24,7 @@ pub(crate) fn read_word<P: ChunkPort>(mem: &mut Chunked<P>, at: u64) -> Result<u
 }
 
 /// Writes a doubleword of the guest.
+#[tactic(auto, using(crate::proofs::Leaves::word_are_bytes))]
 pub(crate) fn write_word<P: ChunkPort>(
     mem: &mut Chunked<P>,
     at: u64,

@@ -59,13 +59,36 @@ no_port why (folder_to NoMemory e b) = let no : ⊥ = cc in no
 no_port why (input_to e b) = let no : ⊥ = cc in no
 no_port why (console_to e b) = let no : ⊥ = cc in no
 
+-- ---- ports that serve the user area
+
+module _ {P F I C : Type 0} (p : port.Ghosts P) (f : folder.Ghosts F) (i : source.Ghosts I) (c : sink.Ghosts C)
+    (never_read : (x x' : P) (at count : ℕ) (why : MemStop) → InUserArea at count → HasRead p x x' at count (Err why)
+    → ⊥)
+    (never_write : (x x' : P) (at : ℕ) (bytes : List ℕ) (why : MemStop) → InUserArea at (length bytes)
+    → HasWritten p x x' at bytes (Err why) → ⊥) where
+  -- over a port that never refuses a range of the user area, no fault of the port comes, whatever the objects tell
+  pub call-meets-no-port : {s s' : At P F I C Kept} {r : Result CallAnswer CallFault} (given : Setting)
+      (numbers : List Open) (request : List ℕ) (why : MemStop) → r ≡ Err (Port why)
+      → AsksInside (service_of (word request 0)) given request
+      → Played (acts p f i c) (call_row given numbers request) s r s' → ⊥
+  call-meets-no-port given numbers request why e inside played =
+      let kept_inside = inside-played p f i c InUserArea (call_row-inside given numbers request inside) played in
+      let blame = shaped-blame (inside_acts p f i c InUserArea) stops Marks IsResult (λ why x x'. ⊥) (λ why x x'. ⊤)
+      (λ x x'. ⊤) (λ x x'. ⊤) (λ x y at count why d. never_read x y at count why d.0 d.1)
+      (λ x y at bytes why d. never_write x y at bytes why d.0 d.1) (λ q x y why d. tt) (λ x y count why d. tt)
+      (λ x y bytes why d. tt) (λ x y v at count bytes why d b. b) (λ x y v at bytes why d b. b)
+      (λ q x y v reply why d b. tt) (λ x y v count bytes d b. tt) (λ x y v bytes d b. tt) (Port why) e
+      (call_row-row given numbers request) kept_inside in
+      no_port why blame
+
+-- ---- calls over what is told
+
 module _ {P F I C : Type 0} (p : port.Ghosts P) (f : folder.Ghosts F) (i : source.Ghosts I) (c : sink.Ghosts C)
     (memory : P → List ℕ → Type 0)
     (on_read : (x x' : P) (t : List ℕ) (at count : ℕ) (bytes : List ℕ) → InUserArea at count → memory x t
-    → HasRead p x x' at count (Ok bytes) → memory x' t × (bytes ≡ take count (drop (at - user_start) t)))
+    → HasRead p x x' at count (Ok bytes) → memory x' t × (bytes ≡ user_bytes.get t at count))
     (on_write : (x x' : P) (t : List ℕ) (at : ℕ) (bytes : List ℕ) → InUserArea at (length bytes) → memory x t
-    → HasWritten p x x' at bytes (Ok tt)
-    → memory x' (take (at - user_start) t ++ (bytes ++ drop (at - user_start + length bytes) t))) where
+    → HasWritten p x x' at bytes (Ok tt) → memory x' (user_bytes.set t at bytes)) where
   -- the objects tell this place
   abbrev pub Tells : At P F I C Kept → Place (List ℕ) Kept → Type 0
   Tells s w = Told p f i c user_bytes InUserArea memory on_read on_write s w
@@ -118,22 +141,8 @@ module _ {P F I C : Type 0} (p : port.Ghosts P) (f : folder.Ghosts F) (i : sourc
       → HasRead p x x' at count (Err why) → ⊥)
       (never_write : (x x' : P) (at : ℕ) (bytes : List ℕ) (why : MemStop) → InUserArea at (length bytes)
       → HasWritten p x x' at bytes (Err why) → ⊥) where
-    -- over a port that never refuses a range of the user area, no fault of the port comes, whatever the objects tell
-    pub call-meets-no-port : {s s' : At P F I C Kept} {r : Result CallAnswer CallFault} (given : Setting)
-        (numbers : List Open) (request : List ℕ) (why : MemStop) → r ≡ Err (Port why)
-        → AsksInside (service_of (word request 0)) given request
-        → Played (acts p f i c) (call_row given numbers request) s r s' → ⊥
-    call-meets-no-port given numbers request why e inside played =
-        let kept_inside = inside-played p f i c InUserArea (call_row-inside given numbers request inside) played in
-        let blame = shaped-blame (inside_acts p f i c InUserArea) stops Marks IsResult (λ why x x'. ⊥) (λ why x x'. ⊤)
-        (λ x x'. ⊤) (λ x x'. ⊤) (λ x y at count why d. never_read x y at count why d.0 d.1)
-        (λ x y at bytes why d. never_write x y at bytes why d.0 d.1) (λ q x y why d. tt) (λ x y count why d. tt)
-        (λ x y bytes why d. tt) (λ x y v at count bytes why d b. b) (λ x y v at bytes why d b. b)
-        (λ q x y v reply why d b. tt) (λ x y v count bytes d b. tt) (λ x y v bytes d b. tt) (Port why) e
-        (call_row-row given numbers request) kept_inside in
-        no_port why blame
-
-    -- and a call that is not carried out leaves the guest's bytes too, with all that is told and kept, but for that one open
+    -- over a port that never refuses a range of the user area, a call that is not carried out leaves the guest's bytes
+    -- too, with all that is told and kept, but for that one open
     pub call-stops : {s s' : At P F I C Kept} {r : Result CallAnswer CallFault} (given : Setting) (request : List ℕ)
         (w : World) (user : List ℕ) (fault : CallFault) → r ≡ Err fault
         → AsksInside (service_of (word request 0)) given request
@@ -157,5 +166,6 @@ module _ {P F I C : Type 0} (p : port.Ghosts P) (f : folder.Ghosts F) (i : sourc
               kept_is = u.stands.kept_is;
             },
           )
-          | inr l ↦ absurd (call-meets-no-port given w.numbers request l.why (e ∙ ap Err l.fault_is) inside played)
+          | inr l ↦ absurd (call-meets-no-port p f i c never_read never_write given w.numbers request l.why
+              (e ∙ ap Err l.fault_is) inside played)
         ]

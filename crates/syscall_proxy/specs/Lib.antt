@@ -26,5 +26,7 @@ pub mod RecordLaws
 pub mod CallLaws
 pub mod StreamRows
 pub mod HostLaws
+pub mod Acted
 pub mod StreamLaws
 pub mod HostRow
+pub mod Laws

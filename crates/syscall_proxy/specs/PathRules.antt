@@ -5,7 +5,7 @@ use Rattle.std.specs.List.{position}
 use Rattle.std.specs.Str.{is_utf8}
 use Rattle.fe_base.specs.declared.error_numbers.ErrNo.{ErrNo}
 use Rattle.fe_base.specs.declared.error_numbers.ErrNo.TheVariants.{EBADF, EINVAL, ENOENT}
-use Rattle.folder_tree.specs.Paths.{Parts, path_of}
+use Rattle.folder_tree.specs.Paths.{Parts, is_absolute, path_of}
 
 -- what stands before a NUL at this place, or all
 abbrev pub before_nul : List ℕ → Option ℕ → List ℕ
@@ -20,11 +20,6 @@ name_of bytes = before_nul bytes (position (λ byte. byte == 0) bytes)
 abbrev pub is_empty : List ℕ → Bool
 is_empty [] = true
 is_empty (byte ∷ rest) = false
-
--- it begins with a slash
-abbrev pub is_absolute : List ℕ → Bool
-is_absolute [] = false
-is_absolute (byte ∷ rest) = byte == 47
 
 -- the directory number that stands for no directory (Linux, include/uapi/linux/fcntl.h, AT_FDCWD: -100)
 abbrev pub current_directory : ℕ

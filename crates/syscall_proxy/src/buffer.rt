@@ -10,15 +10,13 @@ ghost use Rattle.syscall_proxy.specs.Rows.{folder_fault as fault_of};
 use crate::CallFault;
 use crate::outside::folder_fault;
 use chunk_memory::{ChunkPort, Chunked, MemStop};
+use fe_base::limits::TRANSFER_LIMIT;
 use fe_base::{Failed, Source};
 use folder_tree::{Folder, FolderStop};
 use std::alloc::{AllocError, Global};
 use std::marker::Model;
 
-/// The most bytes that one call moves.
-pub const MAX_COUNT: usize = 1_048_576;
-
-/// Room for the bytes of one call, seen as those that were put in last.
+/// Room for the most bytes that one call moves, seen as those that were put in last.
 #[derive(Drop)]
 pub struct Buffer {
     bytes: Vec<u8>,
@@ -47,7 +45,7 @@ impl Buffer {
     pub fn new(alloc: Global) -> Result<Buffer, AllocError>
         ensures { IfOk result (λ buffer. buffer ≡ []) }
     {
-        let bytes = zeroed(alloc, MAX_COUNT)?;
+        let bytes = zeroed(alloc, TRANSFER_LIMIT as usize)?;
         Ok(Buffer { bytes, len: 0 })
     }
 

@@ -6,7 +6,6 @@ ghost use Rattle.syscall_proxy.specs.OpenFlags.{has};
 ghost use Rattle.syscall_proxy.specs.PathRows.{at_path, named_row};
 ghost use Rattle.syscall_proxy.specs.Rows.{bounded, low, word};
 
-use crate::buffer::MAX_COUNT;
 use crate::calls::Calls;
 use crate::flags::OpenFlags;
 use crate::objects::Objects;
@@ -15,6 +14,7 @@ use crate::service::{Service, service_for};
 use crate::setting::Setting;
 use crate::{CallAnswer, CallFault};
 use chunk_memory::ChunkPort;
+use fe_base::limits::TRANSFER_LIMIT;
 use fe_base::{ErrNo, Sink, Source};
 use folder_tree::Folder;
 
@@ -29,7 +29,7 @@ fn low_half(word: u64) -> u32
 fn count_of(word: u64) -> usize
     ensures { result ≡ bounded word }
 {
-    word.min(MAX_COUNT as u64) as usize
+    word.min(TRANSFER_LIMIT) as usize
 }
 
 // unlinkat removes a directory (AT_REMOVEDIR).

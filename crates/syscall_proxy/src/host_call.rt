@@ -1,14 +1,15 @@
 // A host's call.
-ghost use Rattle.std.specs.Prelude.{◌≡◌, ◌⊎◌, ℕ, List, [], Err, Ok, Some, false, IfOk};
+ghost use Rattle.std.specs.Prelude.{◌≡◌, ◌⊎◌, ℕ, List, [], Err, Ok, Some, false, true, IfOk};
 ghost use Rattle.fe_base.specs.Outside.{capacity, PutSuits, Rose};
 ghost use Rattle.folder_tree.specs.Tree.{Tree};
 ghost use Rattle.host_text.specs.Outside.{acts};
 ghost use Rattle.host_text.specs.Played.{Played, at};
+ghost use Rattle.syscall_proxy.specs.Acted.{ActedLate, NotActed};
 ghost use Rattle.syscall_proxy.specs.CallTable.{call_row};
 ghost use Rattle.syscall_proxy.specs.HostLaws.{Late, NeverFell, Unmoved};
 ghost use Rattle.syscall_proxy.specs.Kept.{kept};
 ghost use Rattle.syscall_proxy.specs.Streams.{call_asks, call_puts, call_takes};
-ghost use Rattle.syscall_proxy.specs.Worlds.{IsSmall, IsWorldOf};
+ghost use Rattle.syscall_proxy.specs.Worlds.{IsWorldOf};
 ghost use Rattle.syscall_proxy.specs.declared.answers.CallFault.{CallFault as Fault};
 
 use crate::calls::Calls;
@@ -43,6 +44,15 @@ impl Host {
             (at mem.new folder.new input.new console.new (kept self.new.numbers self.new.acted []))
             ⊎ Late (at mem.old folder.old input.old console.old (kept self.old.numbers false []))
             (at mem.new folder.new input.new console.new (kept self.new.numbers self.new.acted [])) fault }
+        ensures acted { IfOk result (λ answer. self.new.acted ≡ true) }
+        ensures not_acted { (fault : Fault) → result ≡ Err fault → self.new.acted ≡ false
+            → NotActed P.ChunkPort F.Folder I.Source C.Sink self.old.given self.old.numbers request
+            (at mem.old folder.old input.old console.old (kept self.old.numbers false [])) result
+            (at mem.new folder.new input.new console.new (kept self.new.numbers self.new.acted [])) }
+        ensures acted_late { (fault : Fault) → result ≡ Err fault → self.new.acted ≡ true
+            → ActedLate P.ChunkPort F.Folder I.Source C.Sink self.old.given self.old.numbers request
+            (at mem.old folder.old input.old console.old (kept self.old.numbers false []))
+            (at mem.new folder.new input.new console.new (kept self.new.numbers self.new.acted [])) fault }
         ensures file_fault { result ≡ Err CallFault.FileFault → Rose (F.faults folder.old) (F.faults folder.new) }
         ensures out_of_memory { result ≡ Err CallFault.OutOfMemory → Rose (F.short folder.old) (F.short folder.new) }
         ensures input_fault { result ≡ Err CallFault.InputFault → Rose (I.faults input.old) (I.faults input.new) }
@@ -52,8 +62,6 @@ impl Host {
             (at mem.new folder.new input.new console.new (kept self.new.numbers self.new.acted [])) }
         ensures world { (t : Tree) → F.tree folder.old ≡ Some t → IsWorldOf self.old.numbers t
             → (now : Tree) × (F.tree folder.new ≡ Some now) × IsWorldOf self.new.numbers now }
-        ensures small { (t : Tree) → F.tree folder.old ≡ Some t → IsWorldOf self.old.numbers t
-            → IfOk result IsSmall }
         ensures steady { (t : Tree) → F.tree folder.old ≡ Some t → IsWorldOf self.old.numbers t
             → F.steady folder.old → (result ≡ Err CallFault.FileFault → ⊥)
             × (F.faults folder.new ≡ F.faults folder.old) × F.steady folder.new }

@@ -4,6 +4,7 @@
 //   `PathRows` and `RecordRows` the rows, and `specs/Kept` what a host keeps from call to call.
 // - `Host` carries out requests; `Calls` (crate-private) has a method for each row, whose one clause says that the row's
 //   text was followed.
+// - `laws` has what holds of each row of the table, and of each call whose row was followed.
 //
 // Only `Host::new` takes memory.
 #![tactic(auto)]
@@ -16,6 +17,7 @@ mod data_rows;
 mod flags;
 mod host;
 mod host_call;
+pub mod laws;
 #[cfg(test)]
 mod leaf_tests;
 mod main_vars;

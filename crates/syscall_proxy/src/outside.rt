@@ -33,7 +33,18 @@ pub fn write<P: ChunkPort>(mem: &mut Chunked<P>, at: u64, bytes: &Buffer) -> Res
         × HasWritten P.ChunkPort mem.old mem.new at bytes.now (Err why)
         × (fault ≡ CallFault.Port why)) }
 {
-    match mem.write(at, bytes.as_slice()) {
+    write_range(mem, at, bytes.as_slice())
+}
+
+fn write_range<P: ChunkPort>(mem: &mut Chunked<P>, at: u64, bytes: &[u8]) -> Result<(), CallFault>
+    requires { P.usable mem.old }
+    ensures usable { P.usable mem.new }
+    ensures ok { OnOk result (HasWritten P.ChunkPort mem.old mem.new at bytes.now (Ok tt)) }
+    ensures err { IfErr result (λ fault. (why : Stop)
+        × HasWritten P.ChunkPort mem.old mem.new at bytes.now (Err why)
+        × (fault ≡ CallFault.Port why)) }
+{
+    match mem.write(at, bytes) {
         Ok(()) => Ok(()),
         Err(why) => Err(CallFault::Port(why)),
     }

@@ -1,9 +1,9 @@
 // What a guest's path names.
 ghost use Rattle.std.specs.Prelude.{◌≡◌, ◌≤◌, IfOk, length, take};
 ghost use Rattle.std.specs.List.{position};
-ghost use Rattle.folder_tree.specs.Paths.{path_text};
+ghost use Rattle.folder_tree.specs.Paths.{is_absolute as begins_with_slash, path_text};
 ghost use Rattle.std.specs.Str.{is_utf8 as is_utf8_text};
-ghost use Rattle.syscall_proxy.specs.PathRules.{guest_path as path_by_rules, is_absolute as begins_with_slash, name_of as name_in};
+ghost use Rattle.syscall_proxy.specs.PathRules.{guest_path as path_by_rules, name_of as name_in};
 
 use fe_base::ErrNo;
 use fe_base::limits::PATH_TEXT_LIMIT;

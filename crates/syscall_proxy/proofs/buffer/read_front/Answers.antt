@@ -15,11 +15,13 @@ returns-in-Ok-clause-ok g c =
     (same_count g.P.ChunkPort c.args.mem.now c.read.new.self c.args.at
     (length (take c.args.count c.args.bytes.now)) c.args.count (Ok c.read.new.into) room
     (record {
+      usable = c.in-Ok.ensures.usable;
       kept = c.in-Ok.ensures.kept;
       maps = c.in-Ok.ensures.maps;
       causes = c.in-Ok.ensures.causes;
       steady = c.in-Ok.ensures.steady;
       turns = c.in-Ok.ensures.turns;
+      takes = c.in-Ok.ensures.takes;
       told = c.in-Ok.ensures.told;
       reached = c.in-Ok.ensures.reached;
       unmapped = λ a e. let no : ⊥ = cc in absurd no;
@@ -35,11 +37,13 @@ returns-in-Err-clause-err g c =
     same_count g.P.ChunkPort c.args.mem.now c.read.new.self c.args.at
     (length (take c.args.count c.args.bytes.now)) c.args.count (Err c.in-Err.why) room
     (record {
+      usable = c.in-Err.ensures.usable;
       kept = c.in-Err.ensures.kept;
       maps = c.in-Err.ensures.maps;
       causes = c.in-Err.ensures.causes;
       steady = c.in-Err.ensures.steady;
       turns = c.in-Err.ensures.turns;
+      takes = c.in-Err.ensures.takes;
       told = c.in-Err.ensures.told;
       reached = c.in-Err.ensures.reached;
       unmapped = λ a e. let h : c.in-Err.why ≡ Unmapped a = cc in c.in-Err.ensures.unmapped a (ap Err h);

@@ -1,6 +1,7 @@
 use Rattle.std.proofs.Common.{◌≡◌, ℕ, List, [], false, refl, subst}
 use Rattle.host_text.specs.Outside.{acts}
 use Rattle.host_text.specs.Played.{Played, at}
+use Rattle.syscall_proxy.specs.Acted.{call-acted, call-acted-late, call-not-acted}
 use Rattle.syscall_proxy.specs.CallTable.{call_row}
 use Rattle.syscall_proxy.specs.HostLaws.{call-fault, call-blames, blames-file, blames-memory, blames-input}
 use Rattle.syscall_proxy.specs.HostLaws.{blames-console, call-counts, call-world, call-steady}
@@ -31,6 +32,20 @@ followed g c =
 pub returns-clause-fault : goal.returns-clause-fault
 returns-clause-fault g c = λ fault e. call-fault g.P.ChunkPort g.F.Folder g.I.Source g.C.Sink c.args.self.now.given
     c.args.self.now.numbers c.args.request fault e (followed g c [])
+
+pub returns-clause-acted : goal.returns-clause-acted
+returns-clause-acted g c = call-acted g.P.ChunkPort g.F.Folder g.I.Source g.C.Sink c.args.self.now.given
+    c.args.self.now.numbers c.args.request c.carry_out.result (followed g c [])
+
+pub returns-clause-not_acted : goal.returns-clause-not_acted
+returns-clause-not_acted g c =
+    λ fault e none. call-not-acted g.P.ChunkPort g.F.Folder g.I.Source g.C.Sink c.args.self.now.given
+    c.args.self.now.numbers c.args.request fault e none (followed g c [])
+
+pub returns-clause-acted_late : goal.returns-clause-acted_late
+returns-clause-acted_late g c =
+    λ fault e late. call-acted-late g.P.ChunkPort g.F.Folder g.I.Source g.C.Sink c.args.self.now.given
+    c.args.self.now.numbers c.args.request fault e refl late (followed g c [])
 
 pub returns-clause-file_fault : goal.returns-clause-file_fault
 returns-clause-file_fault g c = λ e. blames-file g.P.ChunkPort g.F.Folder g.I.Source g.C.Sink

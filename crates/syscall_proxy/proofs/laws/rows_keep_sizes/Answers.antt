@@ -1,0 +1,5 @@
+use Rattle.syscall_proxy.proofs.TableLaws.{rows_keep_sizes}
+use Rattle.syscall_proxy.proofs.laws.rows_keep_sizes.Goals as goal
+
+pub returns : goal.returns
+returns c = rows_keep_sizes
