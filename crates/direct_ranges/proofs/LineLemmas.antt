@@ -264,7 +264,7 @@ all-mapped : (at count : ℕ) → ((doubleword : ℕ) → IsFirstUnmapped at cou
 all-mapped at count none doubleword meets = below-mapped at count (suc doubleword) none doubleword meets (omega arith)
 
 -- an answer that is not Unmapped is that of a mapped range
-mapped-unless : (at count : ℕ) (stop : Option MemStop) → Maps at count stop
+pub mapped-unless : (at count : ℕ) (stop : Option MemStop) → Maps at count stop
     → ((doubleword : ℕ) → stop ≡ Some (Unmapped doubleword) → ⊥) → IsMappedRange at count
 mapped-unless at count stop maps other =
     all-mapped at count (λ doubleword first. other doubleword ((maps doubleword).1 first))
