@@ -1,0 +1,6 @@
+use Rattle.tether_traps.proofs.TrapAgreed as law
+use Rattle.tether_traps.proofs.laws.traps_agree.Goals as goal
+
+-- src/laws.rt
+pub returns : goal.returns
+returns c = law.traps_agree
