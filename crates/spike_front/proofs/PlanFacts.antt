@@ -11,7 +11,7 @@ use Rattle.asm_items.specs.ItemMeaning.{Part, assembled}
 use Rattle.asm_items.specs.declared.fault.AsmFault.{AsmFault}
 use Rattle.asm_items.specs.declared.fault.AsmFault.TheVariants.{UnknownLabel, LabelTwice, OutOfReach, OutOfMemory as NoMemory}
 use Rattle.asm_text.specs.Texts.{Found, text_items}
-use Rattle.spike_front.specs.Answers.{IsProgramRefusal, IsRunAnswer, IsStop, IsWordsRefusal, Yields}
+use Rattle.spike_front.specs.Answers.{IsAssemblyRefusal, IsProgramRefusal, IsRunAnswer, IsStop, IsWordsRefusal, Yields}
 use Rattle.spike_front.specs.Listings.{Listing, kernel_listing}
 use Rattle.spike_front.specs.Plans.{AsksListing, Planned, refuse, put, run, planned_image, planned_file, planned_items, planned_text, planned_source, planned_command, planned_under, named_file, named_folder, answer_of_fault, refusal_of, AreTooLong, HasLimit, IsListing, IsPlan, IsPlanFor, MayAnswer, NamesNone}
 use Rattle.spike_front.specs.Words.{IsSound, command_of, first_count}
@@ -23,7 +23,7 @@ use Rattle.spike_front.specs.declared.words.WordFault.{WordFault}
 use Rattle.spike_front.specs.declared.words.WordFault.TheVariants.{Usage as WordUsage, NotBuilt as WordNotBuilt}
 use Rattle.spike_front.specs.declared.answer.Answer.{Answer}
 use Rattle.spike_front.specs.declared.answer.Answer.TheVariants.{ArgsTooLong, BadAsm, Done}
-use Rattle.spike_front.proofs.Stages.{stop_of_run, stop_yields}
+use Rattle.spike_front.proofs.Stages.{other_stage, stop_of_run, stop_yields}
 
 -- assembly text is never run
 choice_not_run : (b : Bool) (p : Planned) (answer : Answer) (i : Image) (a : List (List ℕ)) (r : Parts) (n : ℕ) → (p ≡ run i a r n → ⊥) → (if b then p else refuse answer) ≡ run i a r n → ⊥
@@ -139,19 +139,28 @@ one_limit words n m one other = let same : Ok (Plain n one.0 one.1) ≡ Ok (Plai
 -- a refusal of a program is none of words
 program_not_words : (a : Answer) → IsProgramRefusal a → IsWordsRefusal a → ⊥
 program_not_words a (inl file) refused = cc
-program_not_words a (inr setting) refused = cc
+program_not_words a (inr (inl program)) refused = cc
+program_not_words a (inr (inr setting)) refused = cc
+
+assembly_not_words : (a : Answer) → IsAssemblyRefusal a → IsWordsRefusal a → ⊥
+assembly_not_words a (inl file) refused = cc
+assembly_not_words a (inr assembly) refused = cc
 
 -- a refusal of words is that of what was read of them
 pub refused_words : (asked : Result Command WordFault) (words : List (List ℕ)) (a : Answer) → IsPlanFor asked words (Refuse a) → IsWordsRefusal a → refusal_of asked ≡ Some a
 refused_words (Ok (Plain limit folder file)) words a kind refused = absurd (program_not_words a kind.0 refused)
 refused_words (Ok Kernel) words a kind refused = cc
-refused_words (Ok (Asm file)) words a kind refused = cc
+refused_words (Ok (Asm file)) words a kind refused = absurd (assembly_not_words a kind refused)
 refused_words (Err fault) words a kind refused = let same : a ≡ answer_of_fault fault = cc in ap Some (sym same)
+
+assembly_not_long : (a : Answer) (n : ℕ) → IsAssemblyRefusal a → a ≡ ArgsTooLong n → ⊥
+assembly_not_long a n (inl file) long = other_stage a (ArgsTooLong n) file (λ e. cc) long
+assembly_not_long a n (inr assembly) long = other_stage a (ArgsTooLong n) assembly (λ e. cc) long
 
 pub refused_too_long : (asked : Result Command WordFault) (words : List (List ℕ)) (a : Answer) (n : ℕ) → command_of words ≡ asked → IsPlanFor asked words (Refuse a) → a ≡ ArgsTooLong n → AreTooLong words n
 refused_too_long (Ok (Plain limit folder file)) words a n read kind long = let known = kind.1 n long in (limit, folder, file, read, known.0, known.1)
 refused_too_long (Ok Kernel) words a n read kind long = cc
-refused_too_long (Ok (Asm file)) words a n read kind long = cc
+refused_too_long (Ok (Asm file)) words a n read kind long = absurd (assembly_not_long a n kind long)
 refused_too_long (Err (WordUsage kind place)) words a n read plan long = let same : a ≡ answer_of_fault (WordUsage kind place) = cc in cc
 refused_too_long (Err WordNotBuilt) words a n read plan long = let same : a ≡ answer_of_fault WordNotBuilt = cc in cc
 

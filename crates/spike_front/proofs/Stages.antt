@@ -1,13 +1,13 @@
 -- Which answers are of which class, by where the work stands.
-use Rattle.std.proofs.Common.{◌≡◌, ◌++◌, ◌⊎◌, inl, inr, ℕ, List, Option, Some, refl, ap, sym, subst, ◌∙◌}
+use Rattle.std.proofs.Common.{◌≡◌, ◌++◌, ◌⊎◌, inl, inr, ℕ, Bool, true, false, List, Option, Some, refl, ap, sym, subst, ◌∙◌}
 use Rattle.plain_machine.specs.declared.plain.PlainFault.TheVariants.{FileFault as FileStop, InputFault as InputStop, ConsoleFault as ConsoleStop, OutOfMemory as MemoryStop}
 use Rattle.plain_machine.specs.declared.plain.PlainEnd.{PlainEnd}
 use Rattle.plain_machine.specs.declared.plain.PlainEnd.TheVariants.{Exited as EndExited, StepsSpent as EndSpent, Fault as EndFault}
 use Rattle.spike_front.specs.declared.answer.Answer.{Answer}
-use Rattle.spike_front.specs.declared.answer.Answer.TheVariants.{ReportFault}
+use Rattle.spike_front.specs.declared.answer.Answer.TheVariants.{ConsoleFault, Done, ReportFault}
 use Rattle.spike_front.specs.declared.words.WordFault.{WordFault}
 use Rattle.spike_front.specs.declared.words.WordFault.TheVariants.{Usage, NotBuilt}
-use Rattle.spike_front.specs.Answers.{Stage, stage_of, IsRefusal, IsRunAnswer, IsSaid, IsStop, IsWordsRefusal, Yields}
+use Rattle.spike_front.specs.Answers.{Stage, words_refused, file_missing, program_refused, setting_refused, assembly_refused, stage_of, IsRefusal, IsRunAnswer, IsSaid, IsStop, IsWordsRefusal, Yields}
 use Rattle.spike_front.specs.Causes.{RoseFor}
 use Rattle.spike_front.specs.Plans.{Planned, answer_of_fault, refuse}
 use Rattle.spike_front.specs.Report.{line_of, Reported}
@@ -36,23 +36,45 @@ stop_yields e stop = inl stop
 pub stop_of_run : (e : Answer) → IsStop e → IsRunAnswer e
 stop_of_run e stop = inr (inl stop)
 
+-- the stages at which the work is refused
+refuses : Stage → Bool
+refuses words_refused = true
+refuses file_missing = true
+refuses program_refused = true
+refuses setting_refused = true
+refuses assembly_refused = true
+refuses _ = false
+
+refusal_refuses : (a : Answer) → IsRefusal a → refuses (stage_of a) ≡ true
+unfolding refuses
+refusal_refuses a (inl words) = ap refuses words
+refusal_refuses a (inr (inl (inl file))) = ap refuses file
+refusal_refuses a (inr (inl (inr (inl program)))) = ap refuses program
+refusal_refuses a (inr (inl (inr (inr setting)))) = ap refuses setting
+refusal_refuses a (inr (inr (inl file))) = ap refuses file
+refusal_refuses a (inr (inr (inr assembly))) = ap refuses assembly
+
 -- no answer of a run refuses
 pub run_not_refusal : (a : Answer) → IsRunAnswer a → IsRefusal a → ⊥
-run_not_refusal a (inl ran) (inl refused) = cc
-run_not_refusal a (inl ran) (inr (inl refused)) = cc
-run_not_refusal a (inl ran) (inr (inr refused)) = cc
-run_not_refusal a (inr (inl stopped)) (inl refused) = cc
-run_not_refusal a (inr (inl stopped)) (inr (inl refused)) = cc
-run_not_refusal a (inr (inl stopped)) (inr (inr refused)) = cc
-run_not_refusal a (inr (inr failed)) (inl refused) = cc
-run_not_refusal a (inr (inr failed)) (inr (inl refused)) = cc
-run_not_refusal a (inr (inr failed)) (inr (inr refused)) = cc
+unfolding refuses
+run_not_refusal a (inl ran) refused = let is : refuses (stage_of a) ≡ false = ap refuses ran in let other = refusal_refuses a refused in cc
+run_not_refusal a (inr (inl stopped)) refused = let is : refuses (stage_of a) ≡ false = ap refuses stopped in let other = refusal_refuses a refused in cc
+run_not_refusal a (inr (inr failed)) refused = let is : refuses (stage_of a) ≡ false = ap refuses failed in let other = refusal_refuses a refused in cc
 
 -- no answer but the report's fault takes the place of another
 report_not_refusal : (a : Answer) → a ≡ ReportFault → IsRefusal a → ⊥
-report_not_refusal a is (inl refused) = other_stage a ReportFault refused (λ e. cc) is
-report_not_refusal a is (inr (inl refused)) = other_stage a ReportFault refused (λ e. cc) is
-report_not_refusal a is (inr (inr refused)) = other_stage a ReportFault refused (λ e. cc) is
+unfolding refuses
+report_not_refusal a is refused = let never : refuses (stage_of a) ≡ false = ap (λ (b : Answer). refuses (stage_of b)) is in let other = refusal_refuses a refused in cc
+
+-- what refuses is no put, nor is what stops the work
+pub refusal_puts_none : {P : Type 0} (a : Answer) → IsRefusal a → (a ≡ Done) ⊎ (a ≡ ConsoleFault) → P
+unfolding refuses
+refusal_puts_none a refused (inl is) = let never : refuses (stage_of a) ≡ false = ap (λ (b : Answer). refuses (stage_of b)) is in let other = refusal_refuses a refused in cc
+refusal_puts_none a refused (inr is) = let never : refuses (stage_of a) ≡ false = ap (λ (b : Answer). refuses (stage_of b)) is in let other = refusal_refuses a refused in cc
+
+pub stop_puts_none : {P : Type 0} (a : Answer) → (a ≡ Done) ⊎ (a ≡ ConsoleFault) → IsStop a → P
+stop_puts_none a (inl is) stop = absurd (other_stage a Done stop (λ e. cc) is)
+stop_puts_none a (inr is) stop = absurd (other_stage a ConsoleFault stop (λ e. cc) is)
 
 -- a refusal that is said was one before the report
 pub early_said : {P : Type 0} (e result : Answer) → IsSaid e result → IsRefusal result → (IsRefusal e → P) → P
@@ -73,6 +95,11 @@ words_said e result o (inr fault) known refused = absurd (report_not_refusal res
 pub said_of : {P : Type 0} (e result a : Answer) → (a ≡ ReportFault → ⊥) → IsSaid e result → result ≡ a → (e ≡ a → P) → P
 said_of e result a other (inl same) is then = then (sym same ∙ is)
 said_of e result a other (inr fault) is then = absurd (other (sym is ∙ fault))
+
+-- want of memory and a fault of the folder are none of the report
+pub stop_said : {P : Type 0} (e result : Answer) → IsSaid e result → IsStop result → (IsStop e → P) → P
+stop_said e result (inl same) stop then = then (subst IsStop same stop)
+stop_said e result (inr fault) stop then = absurd (other_stage result ReportFault stop (λ is. cc) fault)
 
 -- and so is its cause
 pub rose_said : (e result a : Answer) {before now : ℕ} → (a ≡ ReportFault → ⊥) → IsSaid e result → RoseFor (e ≡ a) before now → RoseFor (result ≡ a) before now

@@ -1,5 +1,5 @@
 -- What the answers of a folder's calls tell of its files, one after another.
-use Rattle.std.proofs.Common.{◌≡◌, ◌<◌, ◌⊎◌, inl, inr, ℕ, List, Option, Some, Ok, Err, IsSome, length, refl, ap, sym, ◌∙◌, subst, arith}
+use Rattle.std.proofs.Common.{◌≡◌, ◌<◌, inl, inr, ℕ, List, Option, Some, Ok, Err, IsSome, length, refl, ap, sym, ◌∙◌, subst, arith}
 use Rattle.folder_tree.specs.Paths.{Parts}
 use Rattle.folder_tree.specs.Tree.{Tree, IsWellFormed, number_at, opens_of}
 use Rattle.folder_tree.specs.TreeOps.{After, opened, released, release_row}

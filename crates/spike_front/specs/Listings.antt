@@ -1,7 +1,9 @@
 -- What the commands `kernel` and `asm` put on the console: the text of the kernel's items, or the words of assembly
 -- text.
 use Rattle.std.specs.Prelude.{◌≡◌, ◌⊎◌, ℕ, ◌+◌, ◌*◌, List, [], ◌∷◌, ◌++◌, length, Option, Some, Ok}
+use Rattle.std.specs.Prelude.{option_map}
 use Rattle.fe_base.specs.Digits.{hexadecimal}
+use Rattle.fe_base.specs.Memory.{counted}
 use Rattle.fe_base.specs.Outside.{PutSuits}
 use Rattle.asm_items.specs.ItemMeaning.{Part, Spells}
 use Rattle.asm_text.specs.Texts.{text_items}
@@ -43,6 +45,10 @@ GrewBy Is before after = (held : List ℕ) → before ≡ Some held
 -- a console that tells what it holds holds the same
 abbrev pub IsKept : Option (List ℕ) → Option (List ℕ) → Type 0
 IsKept before after = (held : List ℕ) → before ≡ Some held → after ≡ Some held
+
+-- one put was made on a sink that tells how many were
+abbrev pub OnePut : Option ℕ → Option ℕ → Type 0
+OnePut before after = after ≡ option_map counted before
 
 -- a listing has this answer and leaves the console so: Done where it has grown by a text that lists it, and else it is
 -- as it was

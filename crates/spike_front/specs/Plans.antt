@@ -16,7 +16,7 @@ use Rattle.asm_items.specs.declared.fault.AsmFault.TheVariants.{OutOfMemory as N
 use Rattle.asm_text.specs.Faults.{number_of}
 use Rattle.asm_text.specs.Texts.{Found, text_items}
 use Rattle.spike_front.specs.Words.{command_of, usage_number}
-use Rattle.spike_front.specs.Answers.{IsProgramRefusal, IsRefusal, IsRunAnswer, Yields, file_refused, stage_of}
+use Rattle.spike_front.specs.Answers.{IsAssemblyRefusal, IsProgramRefusal, IsRefusal, IsRunAnswer, Yields}
 use Rattle.spike_front.specs.FoundFiles.{directory_named, file_named}
 use Rattle.spike_front.specs.Listings.{Listing, Lists, code_listing, kernel_listing}
 use Rattle.spike_front.specs.declared.words.Command.{Command}
@@ -160,7 +160,7 @@ MayPut (Err fault) text = ⊥
 abbrev pub MayAnswer : Result Command WordFault → Answer → Type 0
 MayAnswer (Ok (Plain limit folder file)) answer = IsProgramRefusal answer ⊎ IsRunAnswer answer
 MayAnswer (Ok Kernel) answer = (answer ≡ Done) ⊎ Yields answer
-MayAnswer (Ok (Asm file)) answer = (stage_of answer ≡ file_refused) ⊎ ((answer ≡ Done) ⊎ Yields answer)
+MayAnswer (Ok (Asm file)) answer = IsAssemblyRefusal answer ⊎ ((answer ≡ Done) ⊎ Yields answer)
 MayAnswer (Err fault) answer = answer ≡ answer_of_fault fault
 
 -- the words' command names no file, or they are no command
@@ -203,7 +203,7 @@ IsProgramPlan args limit (Run image arguments root most) = MayBegin image argume
 
 -- a plan for an assembly file: a refusal of the file, or the words of one
 abbrev pub IsSourcePlan : Plan → Type 0
-IsSourcePlan (Refuse answer) = stage_of answer ≡ file_refused
+IsSourcePlan (Refuse answer) = IsAssemblyRefusal answer
 IsSourcePlan (Put text) = ListsSource text
 IsSourcePlan (Run image args root limit) = ⊥
 

@@ -1,6 +1,6 @@
 -- What a run of `plain` leaves and answers, by the direct run.
 use Rattle.std.specs.Prelude.{◌≡◌, ◌≢◌, ◌≤◌, ◌<◌, ◌+◌, ◌↔◌, ◌==◌, ◌&&◌, ◌||◌, ℕ, Bool, true, List, [], length, Option}
-use Rattle.std.specs.Prelude.{None}
+use Rattle.std.specs.Prelude.{None, Some}
 use Rattle.elf_loader.specs.declared.image.Image.{Image}
 use Rattle.fe_base.specs.Outside.{capacity}
 use Rattle.fe_base.specs.declared.outside.Sink as sink
@@ -24,9 +24,10 @@ use Rattle.plain_machine.specs.declared.plain.PlainEnd.TheVariants.{Fault as End
 use Rattle.spike_front.specs.declared.answer.Answer.{Answer}
 use Rattle.spike_front.specs.declared.answer.Answer.TheVariants.{Exited, StepsSpent, FileFault, InputFault}
 use Rattle.spike_front.specs.declared.answer.Answer.TheVariants.{ConsoleFault, OutOfMemory}
-use Rattle.spike_front.specs.Answers.{IsRunAnswer, is_stop}
+use Rattle.spike_front.specs.Answers.{IsRunAnswer, IsSaid, is_stop}
 use Rattle.spike_front.specs.Causes.{RoseFor}
 use Rattle.spike_front.specs.Plans.{plan_of, run}
+use Rattle.spike_front.specs.Report.{Reported}
 
 -- a run: the configuration that it is of, and the most steps that it may make
 pub record RunCase : Type 0 where
@@ -99,6 +100,21 @@ module _ {F I C : Type 0} (f : folder.Ghosts F) (i : source.Ghosts I) (c : sink.
   pub record LeavesUnasked (d : RunCase) (old new : Outside F I C) (steps : ℕ) : Type 0 where
     pub input : NeverAsks asks_input (setting_of d.start) (direct_start d.start) steps → new.input ≡ old.input
     pub console : NeverPuts (setting_of d.start) (direct_start d.start) steps → new.console ≡ old.console
+
+  -- A run that the words ask for is answered so, and a report that was told one text tells another: before the report
+  -- there is one answer after so many steps. It is a run of `plain`, and the report tells its steps; each of its faults
+  -- has its time and its cause, steady objects do not fail it, and what no step asks stays.
+  pub record IsAnsweredRun (d : RunCase) (old new : Outside F I C) (result : Answer) (before after : Option (List ℕ))
+      : Type 0 where
+    pub answer : Answer
+    pub steps : ℕ
+    pub ran : PlainRun d answer steps (i.left new.input) (c.held new.console) (f.tree new.folder)
+    pub said : IsSaid answer result
+    pub reported : Reported result (Some steps) before after
+    pub timely : IsTimely d answer steps
+    pub causes : HasRunCauses old new answer steps
+    pub calm : IsCalm d old answer steps
+    pub unasked : LeavesUnasked d old new steps
 
 -- how what stopped a run is answered
 abbrev pub answer_of_stop : PlainFault → Answer

@@ -7,13 +7,13 @@ ghost use Rattle.plain_machine.specs.Outsides.{outside};
 ghost use Rattle.plain_machine.specs.Stands.{HasFiles};
 ghost use Rattle.spike_front.specs.Answers.{IsRefusal, IsSaid, IsStop, IsWordsRefusal};
 ghost use Rattle.spike_front.specs.Causes.{RoseFor};
-ghost use Rattle.spike_front.specs.Listings.{GrewBy, IsKept, Listed, Listing, ListingSuits};
+ghost use Rattle.spike_front.specs.Listings.{GrewBy, IsKept, Listed, Listing, ListingSuits, OnePut};
 ghost use Rattle.spike_front.specs.Plans.{AreTooLong, AsksListing, HasLimit, IsListing, MayAnswer, MayPut};
 ghost use Rattle.spike_front.specs.Plans.{NamesNone, Plans, plan_of, put, refuse, words_refusal};
 ghost use Rattle.spike_front.specs.FoundFiles.{StaysOrOpens, StaysWellFormed};
 ghost use Rattle.spike_front.specs.Report.{Reported};
-ghost use Rattle.spike_front.specs.Runs.{Asks, ConsoleSuits, HasRunCauses, IsCalm, IsTimely, LeavesUnasked, PlainRun};
-ghost use Rattle.spike_front.specs.Runs.{RunCase};
+ghost use Rattle.spike_front.specs.Runs.{Asks, ConsoleSuits, HasRunCauses, IsAnsweredRun, IsTimely, LeavesUnasked};
+ghost use Rattle.spike_front.specs.Runs.{PlainRun, RunCase};
 ghost use Rattle.spike_front.specs.Words.{command_of, first_count};
 
 use crate::answer::Answer;
@@ -109,15 +109,18 @@ pub fn front<I: Source, C: Sink, R: Sink, F: Folder>(
     // Steady objects fail no run. An input that no step asks for bytes is as it was, and so is a console on which none
     // puts any.
     ensures ran { (c : RunCase) → Asks words.now c (I.left input.old) (C.held console.old) (F.tree folder.old)
-        → (answer : Answer) × (steps : ℕ)
-        × PlainRun c answer steps (I.left input.new) (C.held console.new) (F.tree folder.new)
-        × IsSaid answer result × Reported result (Some steps) (R.held report.old) (R.held report.new)
-        × IsTimely c answer steps
-        × HasRunCauses F.Folder I.Source C.Sink (outside folder.old input.old console.old)
-        (outside folder.new input.new console.new) answer steps
-        × IsCalm F.Folder I.Source C.Sink c (outside folder.old input.old console.old) answer steps
-        × LeavesUnasked F.Folder I.Source C.Sink c (outside folder.old input.old console.old)
-        (outside folder.new input.new console.new) steps }
+        → IsAnsweredRun F.Folder I.Source C.Sink c (outside folder.old input.old console.old)
+        (outside folder.new input.new console.new) result (R.held report.old) (R.held report.new) }
+
+    // A listing goes to the console by one put, which may fail; where the words or the file are refused, the folder fails
+    // or there is no memory, the console is not called; and whatever is answered, there is one put at most. The report's
+    // line is one put as well.
+    ensures one_put { IsListing (command_of words.now) → (result ≡ Answer.Done) ⊎ (result ≡ Answer.ConsoleFault)
+        → OnePut (C.puts console.old) (C.puts console.new) }
+    ensures no_put { IsListing (command_of words.now) → IsRefusal result ⊎ IsStop result → console.new ≡ console.old }
+    ensures at_most_one_put { IsListing (command_of words.now)
+        → (console.new ≡ console.old) ⊎ OnePut (C.puts console.old) (C.puts console.new) }
+    ensures one_line { (result ≡ Answer.Done → ⊥) → OnePut (R.puts report.old) (R.puts report.new) }
 
     // Each fault comes only where the count of that object rose in this call.
     ensures file_cause { RoseFor (result ≡ Answer.FileFault) (F.faults folder.old) (F.faults folder.new) }
@@ -126,9 +129,11 @@ pub fn front<I: Source, C: Sink, R: Sink, F: Folder>(
     ensures report_cause { RoseFor (result ≡ Answer.ReportFault) (R.faults report.old) (R.faults report.new) }
 
     // A steady folder whose tree is told and well formed, a steady input, and a steady report with room for a line fail
-    // no command.
+    // no command; a listing asks no more of the tree than that it is told.
     ensures file_steady { (t : Tree) → IsWellFormed t → F.tree folder.old ≡ Some t → F.steady folder.old
         → result ≡ Answer.FileFault → ⊥ }
+    ensures listing_steady { IsListing (command_of words.now) → (t : Tree) → F.tree folder.old ≡ Some t
+        → F.steady folder.old → result ≡ Answer.FileFault → ⊥ }
     ensures input_steady { I.steady input.old → result ≡ Answer.InputFault → ⊥ }
     ensures report_steady { R.steady report.old → PutSuits (R.room report.old) report_line_limit
         → result ≡ Answer.ReportFault → ⊥ }
@@ -171,6 +176,12 @@ fn command<I: Source, C: Sink, F: Folder>(
         × GrewBy (MayPut (command_of words.now)) (C.held console.old) (C.held console.new) }
     ensures not_done { IsListing (command_of words.now) → (result.answer ≡ Answer.Done → ⊥)
         → IsKept (C.held console.old) (C.held console.new) }
+    ensures one_put { IsListing (command_of words.now)
+        → (result.answer ≡ Answer.Done) ⊎ (result.answer ≡ Answer.ConsoleFault)
+        → OnePut (C.puts console.old) (C.puts console.new) }
+    ensures no_put { IsListing (command_of words.now) → IsStop result.answer → console.new ≡ console.old }
+    ensures at_most_one_put { IsListing (command_of words.now)
+        → (console.new ≡ console.old) ⊎ OnePut (C.puts console.old) (C.puts console.new) }
     ensures ran { (c : RunCase) → Asks words.now c (I.left input.old) (C.held console.old) (F.tree folder.old)
         → (steps : ℕ) × (result.steps ≡ Some steps)
         × PlainRun c result.answer steps (I.left input.new) (C.held console.new) (F.tree folder.new)
@@ -236,6 +247,7 @@ fn put_listing<C: Sink>(text: &Bytes, console: &mut C) -> Answer
     ensures done { result ≡ Answer.Done → (held : List ℕ) → C.held console.old ≡ Some held
         → C.held console.new ≡ Some (held ++ text.now) }
     ensures kept { (result ≡ Answer.Done → ⊥) → IsKept (C.held console.old) (C.held console.new) }
+    ensures one_put { OnePut (C.puts console.old) (C.puts console.new) }
     ensures cause { RoseFor (result ≡ Answer.ConsoleFault) (C.faults console.old) (C.faults console.new) }
     ensures steady { C.steady console.old → PutSuits (C.room console.old) (length text.now)
         → result ≡ Answer.ConsoleFault → ⊥ }
@@ -252,6 +264,7 @@ fn put_report<R: Sink>(ending: Ending, report: &mut R) -> Answer
     requires { ending.answer ≡ Answer.ReportFault → ⊥ }
     ensures said { IsSaid ending.answer result }
     ensures done { ending.answer ≡ Answer.Done → (result ≡ Answer.Done) × (report.new ≡ report.old) }
+    ensures one_line { (ending.answer ≡ Answer.Done → ⊥) → OnePut (R.puts report.old) (R.puts report.new) }
     ensures reported { Reported result ending.steps (R.held report.old) (R.held report.new) }
     ensures cause { RoseFor (result ≡ Answer.ReportFault) (R.faults report.old) (R.faults report.new) }
     ensures steady { R.steady report.old → PutSuits (R.room report.old) report_line_limit → result ≡ ending.answer }

@@ -12,9 +12,9 @@
 //   too long, a fault of assembly text) are exactly those of the plan that words and files determine (`specs/Plans`),
 //   in order. They yield only to a fault of the folder, to want of memory and to a report that fails. All files are as
 //   they were.
-// - `answers`: Whatever the objects tell: `plain` refuses the file or what it would run with, or answers as a run does;
-//   `kernel` and `asm` answer Done or a fault, and `asm` a refusal of the file; words that are no command have their
-//   one answer. Besides, any report may fail.
+// - `answers`: Whatever the objects tell: `plain` answers NoProgram, a fault of the file, NoFolder or ArgsTooLong, or as
+//   a run does; `kernel` and `asm` answer Done or a fault, and `asm` NoProgram or BadAsm, which no other command answers;
+//   words that are no command have their one answer. Besides, any report may fail.
 // - `refusal_untouched`, `listing_untouched`: Whatever the objects tell: where the answer is a refusal, input and
 //   console were not called; and a command that puts a listing does not call the input.
 // - `too_long`, `spent`: ArgsTooLong(N) comes only where the main vars of the words' arguments have N bytes, above
@@ -33,6 +33,9 @@
 //   the words ask for (`specs/Listings`): print_asm's text of the kernel's items, or the words of bytes that hold what
 //   the assembly text means at 0. A steady console with room for each text that lists it, and a steady folder, fail no
 //   listing.
+// - `one_put`, `no_put`, `at_most_one_put`, `one_line`: A command that puts a listing makes one put on the console where
+//   the answer is Done or ConsoleFault, does not call it where words or file are refused, the folder failed or there was
+//   no memory, and makes one put at most whatever is answered. The report is called by one put, but for Done.
 // - `ran`: On every answer of a run, the faults and OutOfMemory too, there is one number of steps at which console,
 //   untaken input and files are those of the direct run (`specs/Runs`), and which the report tells. No earlier state
 //   had ended. Exited(s) and StepsSpent(limit) come exactly where the direct run says so. The whole tree is that of the
@@ -43,8 +46,9 @@
 //   An input that no step takes from is as it was, and so is a console that no step puts on.
 // - `file_cause`, `input_cause`, `console_cause`, `report_cause`: The counts of faults never fall, and each fault comes
 //   only where the count of that object rose in this call.
-// - `file_steady`, `input_steady`, `report_steady`: Over a steady folder whose tree is told and well formed, a steady
-//   input, and a steady report with room for a line of 128 bytes, no fault of theirs is answered.
+// - `file_steady`, `listing_steady`, `input_steady`, `report_steady`: Over a steady folder whose tree is told and well
+//   formed, a steady input, and a steady report with room for a line of 128 bytes, no fault of theirs is answered; of a
+//   listing also where the tree is told and not well formed.
 #![tactic(auto)]
 
 mod answer;

@@ -1,5 +1,5 @@
 // What the words ask for, judged before anything is put or run.
-ghost use Rattle.std.specs.Prelude.{◌≡◌, ◌≤◌, ◌<◌, ℕ, List, IfOk, IfSome, OnErr, IsErrOf, Some, Ok, Err};
+ghost use Rattle.std.specs.Prelude.{◌≡◌, ◌≤◌, ◌<◌, IfOk, IfSome, OnErr, IsErrOf, Some, Ok, Err};
 ghost use Rattle.std.specs.Prelude.{drop, length, slice_index_or};
 ghost use Rattle.elf_loader.specs.ElfFile.{IsFit, fault_of};
 ghost use Rattle.elf_loader.specs.Rules.{user_rules};

@@ -1,5 +1,5 @@
 // `front` over objects in memory: what it answers, puts on the console and reports.
-ghost use Rattle.std.specs.Prelude.{◌≡◌, ◌<◌, length};
+ghost use Rattle.std.specs.Prelude.{◌<◌, length};
 
 mod files;
 mod folders;

@@ -98,6 +98,20 @@ fn folders_are_found(rt: HostRuntime) -> Result<(), Fail> {
     under(&rt, alloc, "p", &file, Answer::NoFolder, line)
 }
 
+// The root's path in 4,095 bytes, and one byte more, which is no path.
+#[test]
+fn long_folders_name_nothing(rt: HostRuntime) -> Result<(), Fail> {
+    let alloc = rt.alloc();
+    let file = program(alloc, &END)?;
+    let slashes: Vec<u8> = vec![in alloc; b'/'; 4_096]?;
+    let root = from_utf8(&slashes[1..])?;
+    let line = "pkfe: exited 0 after 2 steps\n";
+    under(&rt, alloc, root, &file, Answer::Exited(0), line)?;
+    let long = from_utf8(&slashes)?;
+    let line = "pkfe: no folder\n";
+    under(&rt, alloc, long, &file, Answer::NoFolder, line)
+}
+
 #[test]
 fn folders_are_refused_in_order(rt: HostRuntime) -> Result<(), Fail> {
     let alloc = rt.alloc();

@@ -1,12 +1,11 @@
 use Rattle.std.proofs.Common.{◌≡◌, ◌≤◌, ◌⊎◌, ℕ, refl, ap, sym, subst, ◌∙◌, inl, inr, Some, rules, arith}
-use Rattle.plain_machine.specs.Outsides.{outside}
 use Rattle.plain_machine.specs.Stands.{Tells}
 use Rattle.spike_front.specs.Answers.{stage_of, Yields}
 use Rattle.spike_front.specs.Plans.{HasLimit, IsListing, MayAnswer, MayPut, planned_command, refusal_of}
 use Rattle.spike_front.specs.Runs.{ConsoleSuits, IsTimely, RunCase}
 use Rattle.spike_front.specs.Words.{first_count}
 use Rattle.spike_front.specs.declared.answer.Answer.TheVariants.{Done, FileFault, OutOfMemory}
-use Rattle.spike_front.proofs.Stages.{run_not_refusal}
+use Rattle.spike_front.proofs.Stages.{refusal_puts_none, run_not_refusal, stop_puts_none}
 use Rattle.spike_front.proofs.TreeFacts.{formed_still}
 use Rattle.spike_front.proofs.PlanFacts.{fault_read, kernel_plan, sound_as, limit_counts, limit_not_listing, listing_counts, listing_may, listing_not_run, one_limit, put_is_listing, refusal_may, refused_too_long, refused_words, run_counts, run_has_limit, run_may, same_refusal, some_steps, stop_may}
 use Rattle.spike_front.proofs.Listed.{listed_put, listed_stopped, plan_asked, put_may, text_lists}
@@ -65,7 +64,23 @@ pub returns-in-Ok-Refuse-clause-counted : goal.returns-in-Ok-Refuse-clause-count
 returns-in-Ok-Refuse-clause-counted g c = λ limit has.
     (0, c.first_count.ensures ∙ limit_counts c.read_command-asked.result c.args.words.now limit (sym c.read_command-asked.ensures.value) has, omega arith)
 
+pub returns-in-Ok-Refuse-clause-one_put : goal.returns-in-Ok-Refuse-clause-one_put
+returns-in-Ok-Refuse-clause-one_put g c = λ listing which.
+    refusal_puts_none c.in-Ok-Refuse.answer (rw c.in-Ok-Refuse.field-0-is at c.in-Ok-Refuse.ensures.fits) which
+
+pub returns-in-Ok-Refuse-clause-at_most_one_put : goal.returns-in-Ok-Refuse-clause-at_most_one_put
+returns-in-Ok-Refuse-clause-at_most_one_put g c = λ listing. inl refl
+
 -- where a text is put
+
+pub returns-in-Ok-Put-clause-one_put : goal.returns-in-Ok-Put-clause-one_put
+returns-in-Ok-Put-clause-one_put g c = λ listing which. c.put_listing.ensures.one_put
+
+pub returns-in-Ok-Put-clause-no_put : goal.returns-in-Ok-Put-clause-no_put
+returns-in-Ok-Put-clause-no_put g c = λ listing stop. stop_puts_none c.put_listing.result c.put_listing.ensures.answers stop
+
+pub returns-in-Ok-Put-clause-at_most_one_put : goal.returns-in-Ok-Put-clause-at_most_one_put
+returns-in-Ok-Put-clause-at_most_one_put g c = λ listing. inr c.put_listing.ensures.one_put
 
 pub returns-in-Ok-Put-clause-listed : goal.returns-in-Ok-Put-clause-listed
 returns-in-Ok-Put-clause-listed g c = λ listing asks.
@@ -151,6 +166,18 @@ pub returns-in-Ok-Run-clause-not_done : goal.returns-in-Ok-Run-clause-not_done
 returns-in-Ok-Run-clause-not_done g c = λ listing.
     absurd (listing_not_run c.read_command-asked.result c.args.words.now c.in-Ok-Run.image c.in-Ok-Run.args c.in-Ok-Run.root c.in-Ok-Run.limit (subst IsListing (sym c.read_command-asked.ensures.value) listing) (rw c.in-Ok-Run.field-0-is at c.in-Ok-Run.ensures.kind))
 
+pub returns-in-Ok-Run-clause-one_put : goal.returns-in-Ok-Run-clause-one_put
+returns-in-Ok-Run-clause-one_put g c = λ listing.
+    absurd (listing_not_run c.read_command-asked.result c.args.words.now c.in-Ok-Run.image c.in-Ok-Run.args c.in-Ok-Run.root c.in-Ok-Run.limit (subst IsListing (sym c.read_command-asked.ensures.value) listing) (rw c.in-Ok-Run.field-0-is at c.in-Ok-Run.ensures.kind))
+
+pub returns-in-Ok-Run-clause-no_put : goal.returns-in-Ok-Run-clause-no_put
+returns-in-Ok-Run-clause-no_put g c = λ listing.
+    absurd (listing_not_run c.read_command-asked.result c.args.words.now c.in-Ok-Run.image c.in-Ok-Run.args c.in-Ok-Run.root c.in-Ok-Run.limit (subst IsListing (sym c.read_command-asked.ensures.value) listing) (rw c.in-Ok-Run.field-0-is at c.in-Ok-Run.ensures.kind))
+
+pub returns-in-Ok-Run-clause-at_most_one_put : goal.returns-in-Ok-Run-clause-at_most_one_put
+returns-in-Ok-Run-clause-at_most_one_put g c = λ listing.
+    absurd (listing_not_run c.read_command-asked.result c.args.words.now c.in-Ok-Run.image c.in-Ok-Run.args c.in-Ok-Run.root c.in-Ok-Run.limit (subst IsListing (sym c.read_command-asked.ensures.value) listing) (rw c.in-Ok-Run.field-0-is at c.in-Ok-Run.ensures.kind))
+
 pub returns-in-Ok-Run-clause-answers : goal.returns-in-Ok-Run-clause-answers
 returns-in-Ok-Run-clause-answers g c =
     let answer = c.run_program-end.result.answer in
@@ -198,6 +225,18 @@ pub returns-in-Ok-Run-clause-formed : goal.returns-in-Ok-Run-clause-formed
 returns-in-Ok-Run-clause-formed g c = λ t formed told. c.run_program-end.ensures.formed t formed (c.in-Ok-Run.ensures.told t formed told).1
 
 -- where the work stops before
+
+pub returns-in-Err-FileFault-clause-one_put : goal.returns-in-Err-FileFault-clause-one_put
+returns-in-Err-FileFault-clause-one_put g c = λ listing which. stop_puts_none FileFault which refl
+
+pub returns-in-Err-FileFault-clause-at_most_one_put : goal.returns-in-Err-FileFault-clause-at_most_one_put
+returns-in-Err-FileFault-clause-at_most_one_put g c = λ listing. inl refl
+
+pub returns-in-Err-OutOfMemory-clause-one_put : goal.returns-in-Err-OutOfMemory-clause-one_put
+returns-in-Err-OutOfMemory-clause-one_put g c = λ listing which. stop_puts_none OutOfMemory which refl
+
+pub returns-in-Err-OutOfMemory-clause-at_most_one_put : goal.returns-in-Err-OutOfMemory-clause-at_most_one_put
+returns-in-Err-OutOfMemory-clause-at_most_one_put g c = λ listing. inl refl
 
 pub returns-in-Err-FileFault-clause-refused : goal.returns-in-Err-FileFault-clause-refused
 returns-in-Err-FileFault-clause-refused g c = λ t a plans.

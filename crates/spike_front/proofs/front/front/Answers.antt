@@ -2,8 +2,8 @@ use Rattle.std.proofs.Common.{inl, inr, sym, subst, None, Some}
 use Rattle.spike_front.specs.Plans.{MayAnswer, words_refusal}
 use Rattle.spike_front.specs.Words.{command_of, first_count}
 use Rattle.spike_front.specs.declared.answer.Answer.TheVariants.{ConsoleFault, Done, FileFault, InputFault}
-use Rattle.spike_front.proofs.Stages.{early_said, refusal_said, reported_at, rose_said, said_as, said_of, words_said}
-use Rattle.spike_front.proofs.PlanFacts.{asked_is_listing, refused_names_none, run_counts, some_is, steps_early}
+use Rattle.spike_front.proofs.Stages.{early_said, refusal_said, reported_at, rose_said, said_as, said_of, stop_said, words_said}
+use Rattle.spike_front.proofs.PlanFacts.{asked_is_listing, refused_names_none, some_is}
 use Rattle.spike_front.proofs.front.front.Goals as goal
 
 pub returns-clause-words : goal.returns-clause-words
@@ -77,6 +77,27 @@ returns-clause-done g c = λ h.
 pub returns-clause-not_done : goal.returns-clause-not_done
 returns-clause-not_done g c = λ listing other. c.command-ending.ensures.not_done listing (λ is. other (c.put_report.ensures.done is).0)
 
+pub returns-clause-one_put : goal.returns-clause-one_put
+returns-clause-one_put g c = λ listing which.
+    elim which [
+      | inl is ↦ said_of _ _ Done (λ no. cc) c.put_report.ensures.said is (λ e. c.command-ending.ensures.one_put listing (inl e))
+      | inr is ↦ said_of _ _ ConsoleFault (λ no. cc) c.put_report.ensures.said is (λ e. c.command-ending.ensures.one_put listing (inr e))
+    ]
+
+pub returns-clause-no_put : goal.returns-clause-no_put
+returns-clause-no_put g c = λ listing which.
+    elim which [
+      | inl refusal ↦ early_said _ _ c.put_report.ensures.said refusal (λ is. (c.command-ending.ensures.early is).1)
+      | inr stop ↦ stop_said _ _ c.put_report.ensures.said stop (λ is. c.command-ending.ensures.no_put listing is)
+    ]
+
+pub returns-clause-one_line : goal.returns-clause-one_line
+returns-clause-one_line g c = λ other. c.put_report.ensures.one_line (λ is. other (c.put_report.ensures.done is).0)
+
+pub returns-clause-listing_steady : goal.returns-clause-listing_steady
+returns-clause-listing_steady g c = λ listing t told steady h.
+    said_of _ _ FileFault (λ no. cc) c.put_report.ensures.said h (λ is. c.command-ending.ensures.listing_steady listing t told steady is)
+
 pub returns-clause-reported : goal.returns-clause-reported
 returns-clause-reported g c = (
   c.command-ending.result.steps,
@@ -108,21 +129,22 @@ pub returns-clause-ran : goal.returns-clause-ran
 returns-clause-ran g c = λ d asks.
     let ending = c.command-ending.result in
     let known = c.command-ending.ensures in
-    let run = known.ran d asks in (
-      ending.answer,
-      run.0,
-      run.2,
-      c.put_report.ensures.said,
-      reported_at c.put_report.result ending.steps (Some run.0) _ _ run.1 c.put_report.ensures.reported,
-      run.3,
-      run.4,
-      record {
+    let run = known.ran d asks in
+    record {
+      answer = ending.answer;
+      steps = run.0;
+      ran = run.2;
+      said = c.put_report.ensures.said;
+      reported = reported_at c.put_report.result ending.steps (Some run.0) _ _ run.1 c.put_report.ensures.reported;
+      timely = run.3;
+      causes = run.4;
+      calm = record {
         folder = λ steady h. known.steady d.start.contents.tree asks.formed asks.told.tree_told steady h;
         input = λ steady h. known.input_steady steady h;
         console = run.5;
-      },
-      run.6,
-    )
+      };
+      unasked = run.6;
+    }
 
 pub returns-clause-file_cause : goal.returns-clause-file_cause
 returns-clause-file_cause g c = rose_said _ _ FileFault (λ no. cc) c.put_report.ensures.said c.command-ending.ensures.file_cause
