@@ -1,0 +1,6 @@
+use Rattle.tether_boot.proofs.Unbegun as law
+use Rattle.tether_boot.proofs.laws.boot_is_unbegun.Goals as goal
+
+-- src/laws.rt
+pub returns : goal.returns
+returns c = law.boot_is_unbegun

@@ -1,0 +1,6 @@
+use Rattle.tether_boot.proofs.BootLaws as law
+use Rattle.tether_boot.proofs.laws.serves_boot.Goals as goal
+
+-- src/laws.rt
+pub returns : goal.returns
+returns c = law.serves_boot
