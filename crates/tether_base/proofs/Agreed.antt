@@ -147,7 +147,7 @@ module _ (given : Setting) (start : DirectState) (c : CallState) (user : List â„
   agrees answers r s (refused_before fault now e before left) =
       let files = same-files (MayOpen given c.request) w.contents.tree now before in
       acted-is false _ s left.tells.kept_is refl (before-agrees now _ s files left)
-  agrees answers r s (refused_behind fault end e stepped left) =
+  agrees answers r s (refused_behind fault end value e stepped is left) =
       acted-is true _ s left.tells.kept_is stepped.acts
       (after-agrees end left.call_now left.user_now _ s stepped left.same_steps left.waits left.tells)
 

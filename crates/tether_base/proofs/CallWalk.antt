@@ -35,6 +35,7 @@ use Rattle.syscall_proxy.specs.StreamRows.{call_row-last}
 use Rattle.syscall_proxy.specs.Streams.{MayOpen}
 use Rattle.syscall_proxy.specs.Worlds.{IsWorld, EndsWell}
 use Rattle.syscall_proxy.specs.declared.answers.CallAnswer.{CallAnswer}
+use Rattle.syscall_proxy.specs.declared.answers.CallAnswer.TheVariants.{Result as Value, Exit}
 use Rattle.syscall_proxy.specs.declared.answers.CallFault.{CallFault}
 use Rattle.tether_base.proofs.Areas.{on-read, on-write, off-read, off-write, StillWaits}
 use Rattle.tether_base.specs.Serving.{Here, with_waiting, TellsAll, Pending, Stepped, LeftWaiting}
@@ -188,6 +189,11 @@ area-written : (user : List ℕ) (at : ℕ) (bytes : List ℕ) → InUserArea at
 area-written user at bytes inside long =
     length-with_part user (at - user_start) bytes (omega (arith, inside.0, inside.1)) ∙ long
 
+-- an answer that is a result
+result-value : (a : CallAnswer) → IsResult a → (value : ℕ) × (a ≡ Value value)
+result-value (Value value) is = (value, refl)
+result-value (Exit status) is = absurd is
+
 pub ends-well : (given : Setting) (request : List ℕ) (w : World) (user : List ℕ) (end : End (List ℕ) Kept CallAnswer)
     → AsksInside (service_of (word request 0)) given request → IsWorld w → length user ≡ 0x1000000
     → host_row given request w user ≡ Some end → EndsWell end.answer end.place.contents.tree end.place.kept
@@ -243,7 +249,7 @@ module _ (advance : StepsAdvance) (writes : HostWritesHold) (c : CallState) wher
       → ((now : Tree) × AsBefore may p.contents.tree now × StillWaits advance writes c s'.port
       × TellsAll (record p.contents { tree = now }) p.kept s')
       ⊎ ((end : End (List ℕ) Kept CallAnswer) × (run user_bytes t p ≡ Some end) × StillWaits advance writes c s'.port
-      × TellsAll end.place.contents end.place.kept s')
+      × TellsAll end.place.contents end.place.kept s' × IsResult end.answer)
   row-refused may e p h shape last inside ties played =
       elim (refused seen_acts user_bytes InUserArea (λ x user. Waiting c user x) (λ f t. f ≡ t) (λ i l. i ≡ l)
       (λ o l. o ≡ l)
@@ -276,6 +282,7 @@ module _ (advance : StepsAdvance) (writes : HostWritesHold) (c : CallState) wher
             console_is = l.stands.console_is;
             kept_is = l.stands.kept_is;
           },
+          l.good,
         )
       ]
 
@@ -342,7 +349,8 @@ module _ (advance : StepsAdvance) (writes : HostWritesHold) (c : CallState) wher
         → ((now : Tree) × AsBefore (MayOpen given c.request) w.contents.tree now
         × LeftWaiting c (record w.contents { tree = now }) (kept w.numbers false ws) s')
         ⊎ ((end : End (List ℕ) Kept CallAnswer) × Stepped given start c user end
-        × LeftWaiting c end.place.contents (with_waiting ws end.place.kept) s')
+        × LeftWaiting c end.place.contents (with_waiting ws end.place.kept) s'
+        × ((value : ℕ) × (end.answer ≡ Value value)))
     call-refused {s = s} {s' = s'} fault h played ties =
         elim (row-refused (MayOpen given c.request) fault first_place h (call_row-row given w.numbers c.request)
         (call_row-last given w.numbers c.request)
@@ -371,5 +379,6 @@ module _ (advance : StepsAdvance) (writes : HostWritesHold) (c : CallState) wher
                   waits = l.2.1;
                   tells = subst P (sym f.2) l.3;
                 },
+                result-value f.0.answer (subst (λ (e : End (List ℕ) Kept CallAnswer). IsResult e.answer) (sym f.2) l.4),
               )
         ]

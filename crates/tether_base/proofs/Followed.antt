@@ -1,18 +1,22 @@
 -- The steps of the program beside the direct run's, and those of the kernel until a call is posted.
 use Rattle.std.proofs.Common.{◌≡◌, ◌≢◌, ◌⊎◌, ◌<◌, ◌+◌, ◌^◌, ◌==◌, ◌&&◌, ℕ, inl, inr, Bool, true, false, List, refl}
-use Rattle.std.proofs.Common.{sym, ap, subst, ◌∙◌, arith}
-use Rattle.std.specs.Prelude.{if◌then◌else◌, length}
+use Rattle.std.proofs.Common.{◌*◌, sym, ap, subst, ◌∙◌, arith}
+use Rattle.std.specs.Prelude.{if◌then◌else◌, length, slice_index, Option, Some, unwrap_or}
 use Rattle.std.proofs.lemmas.Bool.{eqb-true, eqb-false}
 use Rattle.fe_base.specs.Memory.{counted}
-use Rattle.fe_base.specs.MemoryMap.{request}
+use Rattle.fe_base.specs.MemoryMap.{frame, request}
+use Rattle.guest_memory.proofs.AreaLemmas.{is_ram-kernel}
+use Rattle.guest_memory.proofs.BeatLemmas.{beat-fits}
+use Rattle.guest_memory.proofs.BusLemmas.{is_beat-ram, beat-ram}
+use Rattle.guest_memory.specs.Bus.{IsBus, beat}
 use Rattle.host_text.specs.World.{World}
 use Rattle.kernel_sim.specs.Advance.{Advances, StepsAdvance, Posted as PostedBy}
 use Rattle.kernel_sim.specs.Changes.{UserAfter, TextAfter, StepsCounted, spoken_of}
 use Rattle.kernel_sim.specs.Holds.{Holds}
 use Rattle.kernel_sim.specs.Kept.{UserKept}
 use Rattle.kernel_sim.specs.Mail.{mail_class, MailIs}
-use Rattle.kernel_sim.specs.Phases.{message, next_phase}
-use Rattle.kernel_sim.specs.Rows.{Row}
+use Rattle.kernel_sim.specs.Phases.{dword, message, next_phase}
+use Rattle.kernel_sim.specs.Rows.{InFrame, Row}
 use Rattle.kernel_sim.specs.Steps.{follows}
 use Rattle.kernel_sim.specs.Stores.{exit_status}
 use Rattle.kernel_sim.specs.Traps.{TrapAfter, TrapTold}
@@ -24,6 +28,7 @@ use Rattle.kernel_sim.specs.declared.phase.PhaseKind.TheVariants.{Scan, Fill, Wa
 use Rattle.kernel_sim.specs.declared.phase.PhaseKind.TheVariants.{Closing}
 use Rattle.kernel_sim.specs.declared.phase.Spoken.{Spoken}
 use Rattle.kernel_sim.specs.declared.phase.UserState.{UserState as Program}
+use Rattle.plain_machine.proofs.Parts.{posts-inside}
 use Rattle.plain_machine.specs.Direct.{DirectState, Machine, running, dying, in_world, after_step, after_trap}
 use Rattle.plain_machine.specs.Direct.{direct_after, direct_after-next, direct_step}
 use Rattle.plain_machine.specs.Messages.{counter_text, is_counter_access, trap_text}
@@ -326,8 +331,22 @@ no-answer p mail asks = go (p.fromhost == 0) refl
     go true e = eqb-true p.fromhost 0 e
     go false e = let none : p.tohost ≡ 0 = mail (eqb-false p.fromhost 0 e) in absurd (omega (arith, none, asks))
 
+-- the program's second argument is a doubleword, as it stands in FRAME
+second-fits : (p : Phase) (sys : System) → InFrame p sys → IsBus sys.bus → slice_index p.user.regs 11 < 2 ^ 64
+second-fits p sys held fits =
+    let at : ℕ = frame + 8 * 11 in
+    let known : beat sys.bus at ≡ Some (dword sys.bus at) =
+    beat-ram sys.bus at (λ e. omega arith) (is_beat-ram at refl (is_ram-kernel at 8 (omega arith) (omega arith))) in
+    let small : dword sys.bus at < 2 ^ 64 =
+    subst (λ (o : Option ℕ). unwrap_or o 0 < 2 ^ 64) known (beat-fits sys.bus at fits) in
+    subst (λ (n : ℕ). n < 2 ^ 64) (held 11 (omega arith) (omega arith)) small
+
 pub posted_calls_wait : PostedCallsWait
-posted_calls_wait given start w book p sys held fits kind posted inside world =
+posted_calls_wait given start w book p sys held fits kind posted world =
+    let row : Row Wait p sys = subst (λ (k : PhaseKind). Row k p sys) kind held.row in
+    let inside = posts-inside p.user.regs sys.bus.user p.user.brk p.user.first_break
+    (part_of (process_of p.user sys.bus.user)) refl (second-fits p sys row.0.registers fits.bus_fits) p.request
+    posted.posted given in
     let mail : p.fromhost ≢ 0 → p.tohost ≡ 0 =
     subst (λ (k : PhaseKind). MailIs (mail_class k) p.tohost p.fromhost) kind held.every.mailbox in (
       record {

@@ -10,3 +10,9 @@ pub mod Returned
 pub mod OwnAnswers
 pub mod Loaded
 pub mod SessionLaws
+pub mod LineSeen
+pub mod WordWalk
+pub mod Moves
+pub mod RangeMoves
+pub mod SpentTexts
+pub mod Once

@@ -34,7 +34,7 @@ use Rattle.tether_base.specs.ToldActs.{SeenRead, SeenWritten}
 use Rattle.tether_base.specs.Waiting.{CallState, Waiting}
 
 -- ---- a doubleword of the kernel area
-kernel-beat : (bus : BusState) (at found : ℕ) → at % 8 ≡ 0 → kernel_start ≤ at → at + 8 ≤ kernel_end → beat bus at
+pub kernel-beat : (bus : BusState) (at found : ℕ) → at % 8 ≡ 0 → kernel_start ≤ at → at + 8 ≤ kernel_end → beat bus at
     ≡ Some found → found ≡ dword bus at
 kernel-beat bus at found even low high e =
     let other : at ≢ start_word = λ is. omega arith in

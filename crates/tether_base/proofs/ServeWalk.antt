@@ -31,7 +31,7 @@ use Rattle.tether_base.proofs.MailWords.{store-word, stop-word}
 use Rattle.tether_base.proofs.Stayed.{stays-ran}
 use Rattle.tether_base.specs.Serving.{Here, with_tohost, with_result, TellsAll, Pending}
 use Rattle.tether_base.specs.Serving.{Stepped, Outcome, carried_out, has_exited, refused_before, refused_behind}
-use Rattle.tether_base.specs.Serving.{ServesCalls}
+use Rattle.tether_base.specs.Serving.{ServesCalls, ServesWords}
 use Rattle.tether_base.specs.ToldActs.{SeenWritten, seen_acts}
 use Rattle.tether_base.specs.Waiting.{CallState, Waiting}
 
@@ -75,7 +75,7 @@ module _ (advance : StepsAdvance) (writes : HostWritesHold) (given : Setting) (s
         let small : v < 2 ^ 64 = subst (λ (a : CallAnswer). IsSmall a) is st.well.0 in
         let left = unwritten end v m.port y why small ties.memory_is d in
         let P : Here → Type 0 = λ z. Comes r z in
-        subst P (sym same) (refused_behind (Port why) end g st (record {
+        subst P (sym same) (refused_behind (Port why) end v g st is (record {
           call_now = left.0;
           same_steps = left.1;
           user_now = end.place.memory;
@@ -116,16 +116,17 @@ module _ (advance : StepsAdvance) (writes : HostWritesHold) (given : Setting) (s
               finishes a done.0 done.1 done.2 done.3 n
           | first fault q e l is ↦ elim (call-refused advance writes c given start user w pending ws fault e l ties) [
             | inl b ↦ refused_before (Call fault) b.0 is b.1 b.2
-            | inr b ↦ refused_behind (Call fault) b.0 is b.1 b.2
+            | inr b ↦ refused_behind (Call fault) b.0 b.3.0 is b.1 b.3.1 b.2
           ]
         ]
 
-  module _ (c : CallState) (user : List ℕ) (w : World) (pending : Pending given start (with_tohost 0 c) user w) where
+  module _ (c : CallState) (user : List ℕ) (w : World) (pending : Pending given start (with_tohost 0 c) user w)
+      (ws : List ℕ) where
     abbrev Ends : Result Turned MailFault → Here → Type 0
-    Ends r s = Outcome given start (with_tohost 0 c) user w pending [] r s
+    Ends r s = Outcome given start (with_tohost 0 c) user w pending ws r s
 
     abbrev Told : Here → Type 0
-    Told s = TellsAll w.contents (kept w.numbers false []) s
+    Told s = TellsAll w.contents (kept w.numbers false ws) s
 
     -- the port refused before the call: nothing has changed
     stopped : (why : MemStop) (d : CallState) (s : Here) {r : Result Turned MailFault} → r ≡ Err (Port why) → d.steps
@@ -150,7 +151,7 @@ module _ (advance : StepsAdvance) (writes : HostWritesHold) (given : Setting) (s
     requested {s = s} {s' = s'} {r = r} h told (has_read {x = x} {bytes = bytes} d next) =
         let got = request-read advance (with_tohost 0 c) user s.port x bytes h d in
         let T : List ℕ → Type 0 = λ l. Played seen_acts (call_text given request l) (record s { port = x }) r s' in
-        handled (with_tohost 0 c) user w pending []
+        handled (with_tohost 0 c) user w pending ws
         (record {
           memory_is = got.0;
           tree_is = told.tree_is;
@@ -178,7 +179,7 @@ module _ (advance : StepsAdvance) (writes : HostWritesHold) (given : Setting) (s
       | inr r ↦ (with_tohost 0 c, refl, tohost-written advance writes c user s now wait r)
     ]
 
-    clears : {s s' : Here} {r : Result Turned MailFault} → Waiting c user s.port → Told s
+    pub clears : {s s' : Here} {r : Result Turned MailFault} → Waiting c user s.port → Told s
         → Played seen_acts (word_text given tohost request) s r s' → Ends r s'
     clears {s = s} {s' = s'} {r = r} h told (has_written {x = x} d next) =
         let wait = tohost-written advance writes c user s.port x h
@@ -201,7 +202,7 @@ module _ (advance : StepsAdvance) (writes : HostWritesHold) (given : Setting) (s
           kept_is = told.kept_is;
         }))
 
-    reads : {s s' : Here} {r : Result Turned MailFault} → c.tohost ≡ request → Waiting c user s.port → Told s
+    pub reads : {s s' : Here} {r : Result Turned MailFault} → c.tohost ≡ request → Waiting c user s.port → Told s
         → Played seen_acts (Read tohost 8 Port (λ bytes. word_text given tohost (from_le_bytes w64 bytes))) s r s'
         → Ends r s'
     reads {s = s} {s' = s'} {r = r} asks h told (has_read {x = x} {bytes = bytes} d next) =
@@ -224,15 +225,17 @@ module _ (advance : StepsAdvance) (writes : HostWritesHold) (given : Setting) (s
           kept_is = told.kept_is;
         }))
 
+  module _ (c : CallState) (user : List ℕ) (w : World) (pending : Pending given start (with_tohost 0 c) user w) where
     -- the whole part of a turn on tohost
     pub serve-waits : {s s' : Here} {r : Result Turned MailFault} (was : Bool) → c.tohost ≡ request
         → Waiting c user s.port → TellsAll w.contents (kept w.numbers was []) s
-        → Played seen_acts (serve_text given tohost) s r s' → Ends r s'
+        → Played seen_acts (serve_text given tohost) s r s'
+        → Outcome given start (with_tohost 0 c) user w pending [] r s'
     serve-waits {s = s} {s' = s'} {r = r} was asks h told (noted {h = k} n (looked p)) =
         let kept_is : k ≡ kept w.numbers false [] = n ∙ ap rests told.kept_is in
         let T : List ℕ → Type 0 = λ l. Played seen_acts (room_text given tohost (nat_lt (length l) most_waiting))
         (record s { kept = k }) r s' in
-        reads asks h (record {
+        reads c user w pending [] asks h (record {
           tree_is = told.tree_is;
           input_is = told.input_is;
           console_is = told.console_is;
@@ -242,3 +245,7 @@ module _ (advance : StepsAdvance) (writes : HostWritesHold) (given : Setting) (s
 pub serves_calls : StepsAdvance → HostWritesHold → ServesCalls
 serves_calls advance writes given start c user w pending was s now r asks wait told played =
     serve-waits advance writes given start c user w pending was asks wait told played
+
+pub serves_words : StepsAdvance → HostWritesHold → ServesWords
+serves_words advance writes given start c user w pending ws s now r wait told played =
+    clears advance writes given start c user w pending ws wait told played

@@ -9,7 +9,7 @@ use Rattle.tether_base.proofs.Stayed as stayed
 use Rattle.tether_base.specs.Behind.{AnswerStepsFollow}
 use Rattle.tether_base.specs.Between.{CallStepsFollow, UserStepsFollow}
 use Rattle.tether_base.specs.Own.{OwnAnswersFollow}
-use Rattle.tether_base.specs.Serving.{ServesCalls, GivesAnswers}
+use Rattle.tether_base.specs.Serving.{ServesCalls, ServesWords, GivesAnswers}
 use Rattle.tether_base.specs.Waiting.{StaysWaiting, TakesUserWrites}
 
 pub user_steps_follow : UserStepsFollow
@@ -32,6 +32,9 @@ takes_user_writes = stayed.takes_user_writes host_writes_hold
 
 pub serves_calls : ServesCalls
 serves_calls = walk.serves_calls steps_advance host_writes_hold
+
+pub serves_words : ServesWords
+serves_words = walk.serves_words steps_advance host_writes_hold
 
 pub gives_answers : GivesAnswers
 gives_answers = given.gives_answers steps_advance host_writes_hold

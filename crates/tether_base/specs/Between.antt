@@ -16,10 +16,7 @@ use Rattle.plain_machine.specs.Programs.{part_of}
 use Rattle.plain_machine.specs.UserStep.{call, user_step}
 use Rattle.rv_hart.specs.HartStep.{System, hart_step}
 use Rattle.rv_hart.specs.Laws.{IsSystem}
-use Rattle.syscall_proxy.specs.CallLaws.{AsksInside}
-use Rattle.syscall_proxy.specs.CallTable.{service_of}
 use Rattle.syscall_proxy.specs.Kept.{Setting}
-use Rattle.syscall_proxy.specs.Rows.{word}
 use Rattle.syscall_proxy.specs.Worlds.{IsWorld}
 use Rattle.tether_base.specs.Place.{Book}
 use Rattle.tether_base.specs.Serving.{Pending, with_tohost}
@@ -111,12 +108,11 @@ abbrev pub posted_call : Phase → System → CallState
 posted_call p sys =
     record { tohost = request; program = p.user; request = p.request; steps = sys.hart.user_steps }
 
--- A posted call waits to be handled, beside the direct run.
+-- A posted call waits to be handled, beside the direct run; what its request names stands in the user area.
 abbrev pub PostedCallsWait : Type 0
 PostedCallsWait =
     (given : Setting) (start : DirectState) (w : World) (book : Book) (p : Phase) (sys : System) → Holds p sys
     → IsSystem sys
-    → p.kind ≡ Wait → IsPosted given start w book p sys.hart.user_steps sys.bus.user
-    → AsksInside (service_of (word p.request 0)) given p.request → IsWorld w
+    → p.kind ≡ Wait → IsPosted given start w book p sys.hart.user_steps sys.bus.user → IsWorld w
     → Waiting (posted_call p sys) sys.bus.user sys
     × Pending given start (with_tohost 0 (posted_call p sys)) sys.bus.user w

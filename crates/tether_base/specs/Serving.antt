@@ -9,7 +9,7 @@ use Rattle.host_text.specs.Openings.{AsBefore}
 use Rattle.host_text.specs.Played.{At, Played}
 use Rattle.host_text.specs.Runs.{End}
 use Rattle.host_text.specs.World.{Contents, World}
-use Rattle.htif_mailbox.specs.Turns.{awaits, call_answer, give_text, gone, serve_text}
+use Rattle.htif_mailbox.specs.Turns.{awaits, call_answer, give_text, gone, serve_text, word_text}
 use Rattle.htif_mailbox.specs.declared.answers.MailFault.{MailFault}
 use Rattle.htif_mailbox.specs.declared.answers.Turned.{Turned}
 use Rattle.htif_mailbox.specs.declared.answers.Turned.TheVariants.{Served, Exited}
@@ -91,8 +91,8 @@ module _ (given : Setting) (start : DirectState) (c : CallState) (user : List �
     (pending : Pending given start c user w) where
   -- A system call whose request was read, and behind which these answers wait, comes to one of these: its result
   -- stands in the request and its answer waits; the program's exit; a refusal before it acted, which changes nothing
-  -- outside, but for one open more of a file that openat was to cut next; or one after it acted. But for the third, the
-  -- direct run has made its step.
+  -- outside, but for one open more of a file that openat was to cut next; or one after it acted, which no exit meets.
+  -- But for the third, the direct run has made its step.
   pub data Outcome (answers : List ℕ) (r : Result Turned MailFault) (s : Here) : Type 0 where
     carried_out : (end : End (List ℕ) Kept CallAnswer) (value : ℕ) → r ≡ Ok Served → Stepped given start c user end
         → end.answer ≡ Value value → Waiting (with_result value c) end.place.memory s.port
@@ -104,8 +104,8 @@ module _ (given : Setting) (start : DirectState) (c : CallState) (user : List �
     refused_before : (fault : MailFault) (now : Tree) → r ≡ Err fault
         → AsBefore (MayOpen given c.request) w.contents.tree now
         → LeftWaiting c (record w.contents { tree = now }) (kept w.numbers false answers) s → Outcome answers r s
-    refused_behind : (fault : MailFault) (end : End (List ℕ) Kept CallAnswer) → r ≡ Err fault
-        → Stepped given start c user end
+    refused_behind : (fault : MailFault) (end : End (List ℕ) Kept CallAnswer) (value : ℕ) → r ≡ Err fault
+        → Stepped given start c user end → end.answer ≡ Value value
         → LeftWaiting c end.place.contents (with_waiting answers end.place.kept) s → Outcome answers r s
 
 -- what the part of a turn on fromhost leaves: all outside as it was, and this is kept
@@ -149,6 +149,16 @@ ServesCalls =
     → c.tohost ≡ request → Waiting c user s.port → TellsAll w.contents (kept w.numbers acted []) s
     → Played seen_acts (serve_text given tohost) s r now
     → Outcome given start (with_tohost 0 c) user w pending [] r now
+
+-- So does what is done once the word of a request was read, whatever answers wait.
+abbrev pub ServesWords : Type 0
+ServesWords =
+    (given : Setting) (start : DirectState) (c : CallState) (user : List ℕ) (w : World)
+    (pending : Pending given start (with_tohost 0 c) user w) (answers : List ℕ) (s now : Here)
+    (r : Result Turned MailFault)
+    → Waiting c user s.port → TellsAll w.contents (kept w.numbers false answers) s
+    → Played seen_acts (word_text given tohost request) s r now
+    → Outcome given start (with_tohost 0 c) user w pending answers r now
 
 -- Whatever it comes to, console, input and files are those of the direct run at the place.
 abbrev pub CallsAgree : Type 0

@@ -11,6 +11,7 @@ use Rattle.chunk_memory.specs.declared.stops.MemStop.TheVariants.{Spent}
 use Rattle.fe_base.specs.declared.outside.Failed.{Failed}
 use Rattle.folder_tree.specs.Tree.{Tree}
 use Rattle.folder_tree.specs.declared.folder.FolderStop.{FolderStop}
+use Rattle.guest_memory.specs.Memory.{AreBytes}
 use Rattle.host_text.specs.Played.{Acts}
 use Rattle.host_text.specs.Text.{Query, Reply, row_of}
 use Rattle.rv_hart.specs.HartStep.{System}
@@ -46,16 +47,16 @@ pub record KeepsLimit (at count : ℕ) (line now : Lined) {T : Type 0} (r : Resu
   pub within : line.target.turns ≤ line.target.limit → now.target.turns ≤ now.target.limit
 
 -- a range is read by the target's next turns
-abbrev pub LineRead : Lined → ℕ → ℕ → Result (List ℕ) MemStop → Lined → Type 0
-LineRead line at count r now =
-    ReadsRange (DirectOne next_line) (DirectRefused next_line lost_line) 8 1024 at count r line now
-    × KeepsLimit at count line now r
+pub record LineRead (line : Lined) (at count : ℕ) (r : Result (List ℕ) MemStop) (now : Lined) : Type 0 where
+  pub made : ReadsRange (DirectOne next_line) (DirectRefused next_line lost_line) 8 1024 at count r line now
+  pub keeps : KeepsLimit at count line now r
 
--- a range is written by the target's next turns
-abbrev pub LineWritten : Lined → ℕ → List ℕ → Result Unit MemStop → Lined → Type 0
-LineWritten line at bytes r now =
-    WritesRange (DirectOne next_line) (DirectRefused next_line lost_line) 8 1024 at bytes r line now
-    × KeepsLimit at (length bytes) line now r
+-- a range of bytes is written by the target's next turns
+pub record LineWritten (line : Lined) (at : ℕ) (bytes : List ℕ) (r : Result Unit MemStop) (now : Lined)
+    : Type 0 where
+  pub made : WritesRange (DirectOne next_line) (DirectRefused next_line lost_line) 8 1024 at bytes r line now
+  pub keeps : KeepsLimit at (length bytes) line now r
+  pub are_bytes : AreBytes bytes
 
 -- over a target behind a line
 abbrev pub line_acts : Acts Lined Tree (List ℕ) (List ℕ)

@@ -4,8 +4,38 @@ ghost use Rattle.tether_base.specs.Behind.{AnsweredCallsReturn, AnswerStepsFollo
 ghost use Rattle.tether_base.specs.Between.{CallStepsFollow, PostedCallsWait, UserStepsFollow};
 ghost use Rattle.tether_base.specs.Loading.{LoadsHold, StartsHart};
 ghost use Rattle.tether_base.specs.Own.{OwnAnswersFollow, OwnCallsBegin};
-ghost use Rattle.tether_base.specs.Serving.{CallsAgree, GivesAnswers, ServesCalls};
+ghost use Rattle.tether_base.specs.Seen.{LinesAreSeen};
+ghost use Rattle.tether_base.specs.SeenWords.{StepsNeverFall, WordsAreSeen};
+ghost use Rattle.tether_base.specs.Serving.{CallsAgree, GivesAnswers, ServesCalls, ServesWords};
+ghost use Rattle.tether_base.specs.Tethered.{MoreTurns, TetheredOnce};
 ghost use Rattle.tether_base.specs.Waiting.{StaysWaiting, TakesUserWrites};
+
+/// What is followed over a target behind a line is followed over what is seen of it, and keeps the line one to a target
+/// of the direct link, with its limit and its pauses.
+pub fn lines_are_seen()
+    ensures { LinesAreSeen }
+{}
+
+/// The tethered run has one state, and one end, for each number of turns.
+pub fn tethered_once()
+    ensures { TetheredOnce }
+{}
+
+/// A session's text of more host turns goes on from one of fewer.
+pub fn more_turns()
+    ensures { MoreTurns }
+{}
+
+/// Over what is seen of a target, a read only lets the hart run, and a doubleword of the kernel area is read or written
+/// at one moment.
+pub fn words_are_seen()
+    ensures { WordsAreSeen }
+{}
+
+/// The count of user steps never falls, whatever the host does, and the numbers of a target fit as before.
+pub fn steps_never_fall()
+    ensures { StepsNeverFall }
+{}
 
 /// A step of the hart in user mode is a step of the direct run, where the count of user steps does not overflow.
 pub fn user_steps_follow()
@@ -36,6 +66,11 @@ pub fn takes_user_writes()
 /// the call's step, or the call is refused before it acted.
 pub fn serves_calls()
     ensures { ServesCalls }
+{}
+
+/// So does what is done once the word of a request was read, whatever answers wait.
+pub fn serves_words()
+    ensures { ServesWords }
 {}
 
 /// Whatever that part comes to, console, input and files are those of the direct run at the session's place.
