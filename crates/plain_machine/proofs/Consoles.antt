@@ -1,7 +1,7 @@
 -- What a direct step puts on the console.
-use Rattle.std.proofs.Common.{◌≡◌, ◌≢◌, ◌≤◌, ◌+◌, ◌++◌, ℕ, Bool, true, false, List, [], ◌∷◌, length, Option, Some, None, refl, sym, ap, subst, ◌∙◌, arith, length-append, if◌then◌else◌}
+use Rattle.std.proofs.Common.{◌≡◌, ◌+◌, ◌++◌, ℕ, Bool, true, false, List, [], ◌∷◌, length, Option, Some, None, refl, sym, ap, subst, ◌∙◌, arith, length-append, if◌then◌else◌}
 use Rattle.std.specs.Prelude.{◌==◌}
-use Rattle.std.proofs.lemmas.Bool.{false≢true, eqb-true}
+use Rattle.std.proofs.lemmas.Bool.{eqb-true}
 use Rattle.fe_base.specs.Outside.{capacity, PutSuits}
 use Rattle.folder_tree.specs.Tree.{Tree}
 use Rattle.host_text.specs.World.{World}
@@ -9,13 +9,13 @@ use Rattle.host_text.specs.declared.open_numbers.Open.{Open}
 use Rattle.host_text.specs.declared.open_numbers.Open.TheVariants.{Closed, Input, Console, File}
 use Rattle.syscall_proxy.specs.CallTable.{service_of, row_for}
 use Rattle.syscall_proxy.specs.DataRows.{write_open}
-use Rattle.syscall_proxy.specs.HostRow.{user_bytes, begin, host_row}
-use Rattle.syscall_proxy.specs.Kept.{Setting, open_at}
+use Rattle.syscall_proxy.specs.HostRow.{user_bytes, begin}
+use Rattle.syscall_proxy.specs.Kept.{Setting}
 use Rattle.syscall_proxy.specs.Rows.{word, low, bounded, done}
 use Rattle.syscall_proxy.specs.declared.answers.CallFault.TheVariants.{Port, ConsoleFault}
 use Rattle.host_text.specs.Text.{Read, Put}
 use Rattle.host_text.specs.Runs.{run}
-use Rattle.plain_machine.specs.Asks.{Asked, nothing, the_folder, the_input, the_console, puts_of, file_asks, read_asks, write_asks, number_of, asks_by, row_asks, part_asks, user_asks, step_asks}
+use Rattle.plain_machine.specs.Asks.{Asked, nothing, the_folder, the_input, the_console, puts_of, file_asks, read_asks, write_asks, number_of, asks_by, part_asks, user_asks, step_asks}
 use Rattle.plain_machine.specs.Direct.{Machine, running, dying, ended, DirectState, after_host, after_part, after_step, machine_step, direct_step, direct_after, direct_after-next}
 use Rattle.plain_machine.specs.KernelPart.{Part, gives, breaks, posts, scans}
 use Rattle.plain_machine.specs.Programs.{Process, part_of}

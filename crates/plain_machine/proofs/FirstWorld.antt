@@ -1,6 +1,6 @@
 -- The open numbers that a program starts with hold no file.
-use Rattle.std.proofs.Common.{◌≡◌, ◌≤◌, ℕ, List, refl, sym, subst, arith}
-use Rattle.folder_tree.specs.Tree.{Tree, IsWellFormed, opens_of}
+use Rattle.std.proofs.Common.{◌≡◌, ℕ, List, refl, sym, subst, arith}
+use Rattle.folder_tree.specs.Tree.{Tree, IsWellFormed}
 use Rattle.host_text.specs.World.{first_numbers}
 use Rattle.host_text.specs.declared.open_numbers.Open.{Open}
 use Rattle.syscall_proxy.specs.Worlds.{IsWorldOf, held}

@@ -1,12 +1,13 @@
 -- One step after others, as to what they do to the objects.
-use Rattle.std.proofs.Common.{◌≡◌, ◌≤◌, ◌<◌, ◌+◌, ◌-◌, ℕ, List, Option, Some, None, refl, sym, ap, subst, ◌∙◌, arith}
+use Rattle.std.proofs.Common.{◌≡◌, ◌≤◌, ◌-◌, ℕ, List, Option, None, false, refl, sym, ap, subst, ◌∙◌, arith}
+use Rattle.std.proofs.lemmas.Bool.{false≢true}
 use Rattle.fe_base.specs.Outside.{Rose}
 use Rattle.fe_base.specs.declared.outside.Sink as sink
 use Rattle.fe_base.specs.declared.outside.Source as source
 use Rattle.folder_tree.specs.Tree.{Tree}
 use Rattle.folder_tree.specs.declared.folder.Folder as folder
 use Rattle.host_text.specs.declared.open_numbers.Open.{Open}
-use Rattle.plain_machine.specs.Asks.{Asked, step_asks}
+use Rattle.plain_machine.specs.Asks.{Asked, asks_folder, asks_input, needs_outside, nothing, step_asks, the_console, the_folder, the_input}
 use Rattle.plain_machine.specs.Direct.{Machine, DirectState, direct_after}
 use Rattle.plain_machine.specs.Outsides.{Outside, Called, InWorld}
 use Rattle.plain_machine.specs.Stands.{PlainState, asks, made}
@@ -70,3 +71,10 @@ asks-here Q old first mid stands here =
     let s : DirectState = direct_after old.given (made old mid) first in
     let same : step_asks s.world.numbers s.machine ≡ asks mid = ap (λ (l : List Open). step_asks l s.machine) (sym stands.at.numbers_is) ∙ ap (λ (k : Machine). step_asks mid.numbers k) (sym stands.at.machine_is) in
     subst Q same here
+
+-- what needs neither folder nor input asks neither
+pub asks-neither : (x : Asked) → needs_outside x ≡ false → (asks_folder x ≡ false) × (asks_input x ≡ false)
+asks-neither nothing h = (refl, refl)
+asks-neither the_folder h = absurd (false≢true (sym h))
+asks-neither the_input h = absurd (false≢true (sym h))
+asks-neither (the_console bytes) h = (refl, refl)

@@ -1,5 +1,8 @@
 pub mod BusRanges
+pub mod Numbers
 pub mod OnlyCalls
+pub mod Openings
+pub mod Lone
 pub mod Followed
 pub mod Served
 pub mod Reached

@@ -1,28 +1,30 @@
 -- Where a call leads, by what the host's row gave.
 use Rattle.std.proofs.Common.{◌≡◌, ℕ, List, Option, Some, None, Result, Ok, Err, refl, sym, ap, subst, ◌∙◌, length, arith}
-use Rattle.std.specs.Prelude.{◌∷◌, [], Bool, OnErr}
+use Rattle.std.specs.Prelude.{Bool, false, OnErr}
 use Rattle.fe_base.specs.declared.outside.Failed.{Failed}
 use Rattle.fe_base.specs.declared.outside.Sink as sink
 use Rattle.fe_base.specs.declared.outside.Source as source
+use Rattle.folder_tree.specs.Paths.{Parts}
 use Rattle.folder_tree.specs.Tree.{Tree}
 use Rattle.folder_tree.specs.declared.folder.Folder as folder
 use Rattle.host_text.specs.Outside.{HasPut}
 use Rattle.host_text.specs.Runs.{Place}
 use Rattle.host_text.specs.World.{Contents, World}
 use Rattle.host_text.specs.declared.open_numbers.Open.{Open}
-use Rattle.syscall_proxy.specs.HostRow.{host_row, world_after}
+use Rattle.syscall_proxy.specs.HostRow.{host_row}
 use Rattle.syscall_proxy.specs.Kept.{HostState, Kept, Setting}
 use Rattle.syscall_proxy.specs.declared.answers.CallAnswer.{CallAnswer}
 use Rattle.syscall_proxy.specs.declared.answers.CallAnswer.TheVariants.{Result as Value, Exit}
-use Rattle.plain_machine.specs.Direct.{Machine, running, ended, DirectState, after_answer, after_host, after_part, after_step}
+use Rattle.plain_machine.specs.Asks.{needs_outside, part_asks, row_asks}
+use Rattle.plain_machine.specs.Direct.{Machine, running, ended, DirectState, after_answer, after_host, after_part}
 use Rattle.plain_machine.specs.KernelPart.{Part, posts}
-use Rattle.plain_machine.specs.Outsides.{Outside, outside, Called, InWorld}
+use Rattle.plain_machine.specs.Outsides.{outside, Called, InWorld}
 use Rattle.plain_machine.specs.Programs.{Process, answered, replied, with_user, part_of}
-use Rattle.plain_machine.specs.Rows.{RowRan}
-use Rattle.plain_machine.specs.Stands.{Reaches, Spares, Tells}
+use Rattle.plain_machine.specs.Rows.{RowLed, RowRan}
+use Rattle.plain_machine.specs.Stands.{MachineAt, Reaches, Spares}
 use Rattle.plain_machine.specs.UserStep.{UserState}
 use Rattle.plain_machine.specs.declared.plain.PlainFault.{PlainFault}
-use Rattle.plain_machine.specs.declared.plain.PlainFault.TheVariants.{FileFault, ConsoleFault}
+use Rattle.plain_machine.specs.declared.plain.PlainFault.TheVariants.{FileFault}
 use Rattle.plain_machine.proofs.Followed.{put-suited}
 
 -- the world of told contents
@@ -58,6 +60,40 @@ reaches-result old new process final request contents user now answer value {inp
     let here : Reaches (after_answer process (Value value) ran.after) (running final) new.numbers input console tree = record { machine_is = last; numbers_is = ran.numbers_is; contents = ran.told } in
     subst (λ (d : DirectState). Reaches d (running final) new.numbers input console tree) (sym there) here
 
+-- where nothing is told, as if it told what the row leaves
+ran-of : {old new : HostState} {request : List ℕ} {contents : Contents} {user now : List ℕ} {answer : CallAnswer} (led : RowLed old new request contents user now answer)
+    → RowRan old new request contents user now answer (Some led.after.contents.input) (Some led.after.contents.console) (Some led.after.contents.tree)
+ran-of led = record {
+  after = led.after;
+  row = led.row;
+  user_is = led.user_is;
+  numbers_is = led.numbers_is;
+  told = record { input_told = refl; console_told = refl; tree_told = refl };
+}
+
+at-of : {state : DirectState} {machine : Machine} {numbers : List Open} {input console : Option (List ℕ)} {tree : Option Tree} → Reaches state machine numbers input console tree → MachineAt state machine numbers
+at-of r = record { machine_is = r.machine_is; numbers_is = r.numbers_is }
+
+-- the same two of a call that needs neither folder nor input
+pub lone-exit : (old new : HostState) (process : Process) (request : List ℕ) (contents : Contents) (user now : List ℕ) (answer : CallAnswer) (status : ℕ)
+    → RowLed old new request contents user now answer → part_of process ≡ posts request → process.state.user ≡ user → answer ≡ Exit status
+    → MachineAt (after_part old.given process (in_numbers contents old.numbers) (part_of process)) (ended status) new.numbers
+lone-exit old new process request contents user now answer status led is bytes exits =
+    at-of (reaches-exit old new process request contents user now answer status (ran-of led) is bytes exits)
+
+pub lone-result : (old new : HostState) (process final : Process) (request : List ℕ) (contents : Contents) (user now : List ℕ) (answer : CallAnswer) (value : ℕ)
+    → RowLed old new request contents user now answer → part_of process ≡ posts request → process.state.user ≡ user → answer ≡ Value value
+    → final ≡ replied (with_user process now) value
+    → MachineAt (after_part old.given process (in_numbers contents old.numbers) (part_of process)) (running final) new.numbers
+lone-result old new process final request contents user now answer value led is bytes results same =
+    at-of (reaches-result old new process final request contents user now answer value (ran-of led) is bytes results same)
+
+-- a posted call needs what its request needs
+pub posts-need : (numbers : List Open) (process : Process) (request user : List ℕ) → part_of process ≡ posts request → process.state.user ≡ user
+    → needs_outside (part_asks numbers process.state.user (part_of process)) ≡ false → needs_outside (row_asks numbers request user) ≡ false
+posts-need numbers process request user is bytes none =
+    ap (λ (l : List ℕ). needs_outside (row_asks numbers request l)) (sym bytes) ∙ ap (λ (q : Part). needs_outside (part_asks numbers process.state.user q)) (sym is) ∙ none
+
 -- a program whose host served its call, and that got the answer
 pub served-is : (process : Process) (cpu served last : UserState) (program_break first_break value : ℕ) → process ≡ record { state = cpu; program_break = program_break; first_break = first_break }
     → served ≡ record cpu { user = served.user } → last ≡ answered served value → record { state = last; program_break = program_break; first_break = first_break } ≡ replied (with_user process served.user) value
@@ -71,8 +107,10 @@ on-any Q (Ok answer) q = tt
 on-any Q (Err fault) q = q
 
 -- spared contents, by another test that comes to the same
-pub moved-spares : {b : Bool} {contents : Contents} {input console : Option (List ℕ)} {tree : Option Tree} → Spares b contents input console tree → (b' : Bool) → b ≡ b' → Spares b' contents input console tree
-moved-spares {contents = contents} {input} {console} {tree} s b' e = subst (λ z. Spares z contents input console tree) e s
+pub moved-spares : {b : Bool} {root : Parts} {contents : Contents} {input console : Option (List ℕ)} {tree : Option Tree} → Spares b root contents input console tree
+    → (b' : Bool) (root' : Parts) → b ≡ b' → root ≡ root' → Spares b' root' contents input console tree
+moved-spares {root = root} {contents} {input} {console} {tree} s b' root' e under =
+    subst (λ (z : Parts). Spares b' z contents input console tree) under (subst (λ (z : Bool). Spares z root contents input console tree) e s)
 
 module _ {F I C : Type 0} (f : folder.Ghosts F) (i : source.Ghosts I) (c : sink.Ghosts C) where
   -- a step that does not call the folder stays in a world

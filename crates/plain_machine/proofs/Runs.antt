@@ -1,16 +1,17 @@
 -- Where a run stands, from one step to the next.
-use Rattle.std.proofs.Common.{◌≡◌, ◌≤◌, ◌<◌, ◌+◌, ◌-◌, ◌++◌, ℕ, zero, suc, List, [], ◌∷◌, length, Option, Some, None, Bool, true, false, ap, sym, subst, ◌∙◌, refl, inl, inr, arith}
+use Rattle.std.proofs.Common.{◌≡◌, ◌≤◌, ◌<◌, ◌+◌, ◌-◌, ℕ, zero, suc, List, Option, Some, None, Bool, true, false, ap, sym, subst, ◌∙◌, refl, inl, inr, arith}
 use Rattle.std.specs.Prelude.{◌↔◌}
 use Rattle.std.proofs.Math.Nat.{eq-or-lt_of_le}
 use Rattle.std.proofs.lemmas.Bool.{cases_lt, false≢true}
+use Rattle.folder_tree.specs.Paths.{Parts}
 use Rattle.folder_tree.specs.Tree.{Tree}
 use Rattle.folder_tree.specs.TreeOps.{opened}
-use Rattle.host_text.specs.World.{Contents, World}
+use Rattle.host_text.specs.World.{Contents}
 use Rattle.syscall_proxy.specs.Kept.{Setting}
-use Rattle.plain_machine.specs.Asks.{Asked, step_asks, step_cuts, puts_of}
+use Rattle.plain_machine.specs.Asks.{step_cuts}
 use Rattle.plain_machine.specs.Direct.{Machine, running, dying, ended, DirectState, direct_step, direct_after, direct_after-zero, direct_after-next, status_of, moves_on}
-use Rattle.plain_machine.specs.Stands.{PlainState, Tells, Reaches, IsAt, direct_of, made, TreeStays, HasFiles, Spares, Leaves, Ran, PlainRan, end_opens, asks}
-use Rattle.plain_machine.specs.UserStep.{UserStep, next, call, trap, user_step, moves}
+use Rattle.plain_machine.specs.Stands.{PlainState, Tells, IsAt, direct_of, made, TreeStays, HasFiles, Spares, Leaves, LoneRan, MachineAt, PlainRan, end_opens}
+use Rattle.plain_machine.specs.UserStep.{next, moves}
 use Rattle.plain_machine.specs.declared.plain.PlainEnd.{PlainEnd}
 use Rattle.plain_machine.specs.declared.plain.PlainEnd.TheVariants.{Exited, StepsSpent, Fault}
 use Rattle.plain_machine.specs.declared.plain.PlainFault.{PlainFault}
@@ -108,6 +109,53 @@ StandsAt-next old first mid new {input' = input'} {console' = console'} {tree' =
       earlier = each-next (λ (d : DirectState). status_of d.machine ≡ None) old.given first n m next here stands.earlier;
     }
 
+-- ---- whatever the objects tell
+
+-- a run stands so as if the objects told some contents
+pub record StandsLone (old : PlainState) (first : DirectState) (plain : PlainState) : Type 0 where
+  pub as_told : Contents
+  pub stands : StandsAt old first plain (Some as_told.input) (Some as_told.console) (Some as_told.tree)
+
+pub StandsLone-begin : (old : PlainState) (contents : Contents) → StandsLone old (direct_of old contents) old
+StandsLone-begin old contents = record {
+  as_told = contents;
+  stands = StandsAt-begin old (direct_of old contents) (record { machine_is = refl; numbers_is = refl; contents = record { input_told = refl; console_told = refl; tree_told = refl } });
+}
+
+pub StandsLone-walk : (old : PlainState) (first : DirectState) (mid new : PlainState) → old.steps ≤ mid.steps → mid.steps ≤ new.steps → mid.given ≡ old.given
+    → ((c : Contents) → direct_after mid.given (new.steps - mid.steps) (direct_of mid c) ≡ direct_of new c)
+    → ((c : Contents) (j : ℕ) → j < new.steps - mid.steps → moves_on (direct_after mid.given j (direct_of mid c)).machine ≡ true)
+    → StandsLone old first mid → StandsLone old first new
+StandsLone-walk old first mid new later more given walk each s = record { as_told = s.as_told; stands = StandsAt-walk old first mid new later more given walk each s.stands }
+
+-- contents that are told as others are those
+contents-same : (c d : Contents) → Tells c (Some d.input) (Some d.console) (Some d.tree) → d ≡ c
+contents-same c d told =
+    let e : Some d.input ≡ Some c.input = told.input_told in
+    let input : d.input ≡ c.input = cc in
+    let h : Some d.console ≡ Some c.console = told.console_told in
+    let console : d.console ≡ c.console = cc in
+    let k : Some d.tree ≡ Some c.tree = told.tree_told in
+    let tree : d.tree ≡ c.tree = cc in
+    λ i. record { input = input i; console = console i; tree = tree i }
+
+pub StandsLone-next : (old : PlainState) (first : DirectState) (mid new : PlainState) → old.steps ≤ mid.steps → new.steps ≡ mid.steps + 1 → mid.given ≡ old.given → status_of mid.machine ≡ None
+    → ((c : Contents) → MachineAt (direct_step mid.given (direct_of mid c)) new.machine new.numbers)
+    → StandsLone old first mid → StandsLone old first new
+StandsLone-next old first mid new later more given runs step s =
+    let d : DirectState = direct_step mid.given (direct_of mid s.as_told) in
+    let k : Contents = d.world.contents in
+    let here : IsAt d new (Some k.input) (Some k.console) (Some k.tree) =
+    record { machine_is = (step s.as_told).machine_is; numbers_is = (step s.as_told).numbers_is; contents = record { input_told = refl; console_told = refl; tree_told = refl } } in
+    record {
+      as_told = k;
+      stands = StandsAt-next old first mid new later more given runs
+          (λ c told. subst (λ (z : Contents). IsAt (direct_step mid.given (direct_of mid z)) new (Some k.input) (Some k.console) (Some k.tree)) (contents-same c s.as_told told) here) s.stands;
+    }
+
+pub StandsLone-ran : (old : PlainState) (first : DirectState) (new : PlainState) → StandsLone old first new → LoneRan first old new
+StandsLone-ran old first new s = record { at = record { machine_is = s.stands.at.machine_is; numbers_is = s.stands.at.numbers_is }; earlier = s.stands.earlier }
+
 -- a machine with a status has ended with it
 pub ended-by-status : (m : Machine) (status : ℕ) → status_of m ≡ Some status → m ≡ ended status
 ended-by-status (running process) status h = cc
@@ -115,13 +163,13 @@ ended-by-status (dying text s) status h = cc
 ended-by-status (ended s) status h = cc
 
 -- one file opened once more leaves the files
-files-stay : (b : Bool) (t : Tree) (told : Option Tree) → TreeStays b t told → HasFiles t told
-files-stay false t told e = (t, e, refl)
-files-stay true t told (inl e) = (t, e, refl)
-files-stay true t told (inr o) = (opened t o.0, o.1, refl)
+files-stay : (b : Bool) (root : Parts) (t : Tree) (told : Option Tree) → TreeStays b root t told → HasFiles t told
+files-stay false root t told e = (t, e, refl)
+files-stay true root t told (inl e) = (t, e, refl)
+files-stay true root t told (inr (path, number, below, at, is)) = (opened t number, is, refl)
 
-spared-leaves : (b : Bool) (c : Contents) {input console : Option (List ℕ)} {tree : Option Tree} → Spares b c input console tree → Leaves c input console tree
-spared-leaves b c {tree = tree} s = record { input_told = s.input_told; console_told = s.console_told; files_told = files-stay b c.tree tree s.tree_stays }
+spared-leaves : (b : Bool) (root : Parts) (c : Contents) {input console : Option (List ℕ)} {tree : Option Tree} → Spares b root c input console tree → Leaves c input console tree
+spared-leaves b root c {tree = tree} s = record { input_told = s.input_told; console_told = s.console_told; files_told = files-stay b root c.tree tree s.tree_stays }
 
 -- a run that ends where it stands
 pub ran-to : (old : PlainState) (first : DirectState) (new : PlainState) (end : PlainEnd) {input console : Option (List ℕ)} {tree : Option Tree}
@@ -130,30 +178,31 @@ pub ran-to : (old : PlainState) (first : DirectState) (new : PlainState) (end : 
 ran-to old first new end {input} {console} {tree} shut exits stands =
     let s : DirectState = direct_after old.given (made old new) first in
     let told = stands.at.contents in
-    let spared : Spares false s.world.contents input console tree = record { input_told = told.input_told; console_told = told.console_told; tree_stays = told.tree_told } in
+    let spared : Spares false old.given.root s.world.contents input console tree = record { input_told = told.input_told; console_told = told.console_told; tree_stays = told.tree_told } in
     record {
       ran = record {
-        contents = spared-leaves false s.world.contents spared;
+        contents = spared-leaves false old.given.root s.world.contents spared;
         earlier = stands.earlier;
         exited = λ status. (λ e. sym stands.at.machine_is ∙ (exits status).0 e, λ e. (exits status).1 (stands.at.machine_is ∙ e));
       };
       machine = stands.at.machine_is;
       numbers = stands.at.numbers_is;
-      spared = subst (λ b. Spares b s.world.contents input console tree) (sym shut) spared;
+      spared = subst (λ b. Spares b old.given.root s.world.contents input console tree) (sym shut) spared;
     }
 
 -- a run that a fault stops
 pub ran-fault : (old : PlainState) (first : DirectState) (mid new : PlainState) (fault : PlainFault) {input console input' console' : Option (List ℕ)} {tree tree' : Option Tree}
-    → new ≡ mid → status_of mid.machine ≡ None
-    → ((c : Contents) → Tells c input console tree → Spares (step_cuts mid.machine) c input' console' tree')
+    → new ≡ mid → mid.given ≡ old.given → status_of mid.machine ≡ None
+    → ((c : Contents) → Tells c input console tree → Spares (step_cuts mid.machine) mid.given.root c input' console' tree')
     → StandsAt old first mid input console tree → PlainRan first old new (Fault fault) input' console' tree'
-ran-fault old first mid new fault {input' = input'} {console' = console'} {tree' = tree'} kept runs spares stands =
+ran-fault old first mid new fault {input' = input'} {console' = console'} {tree' = tree'} kept given runs spares stands =
     let s : DirectState = direct_after old.given (made old mid) first in
-    let spared : Spares (step_cuts mid.machine) s.world.contents input' console' tree' = spares s.world.contents stands.at.contents in
+    let spared : Spares (step_cuts mid.machine) old.given.root s.world.contents input' console' tree' =
+    subst (λ (g : Setting). Spares (step_cuts mid.machine) g.root s.world.contents input' console' tree') given (spares s.world.contents stands.at.contents) in
     let no : (status : ℕ) → s.machine ≡ ended status → Fault fault ≡ Exited status = λ status e. let clash : None ≡ Some status = sym runs ∙ ap status_of (stands.at.machine_is ∙ e) in cc in
     let here : PlainRan first old mid (Fault fault) input' console' tree' = record {
       ran = record {
-        contents = spared-leaves (step_cuts mid.machine) s.world.contents spared;
+        contents = spared-leaves (step_cuts mid.machine) old.given.root s.world.contents spared;
         earlier = stands.earlier;
         exited = λ status. (λ e. let no : ⊥ = cc in absurd no, no status);
       };

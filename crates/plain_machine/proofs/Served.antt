@@ -1,43 +1,43 @@
 -- What the host's call of a request over the user area of a bus comes to.
-use Rattle.std.proofs.Common.{◌≡◌, ◌≢◌, ◌⊎◌, ◌≤◌, ◌+◌, ◌-◌, ◌^◌, ◌++◌, ℕ, Bool, true, false, List, [], length, take, drop, Option, Some, None, Result, Ok, Err, refl, sym, ap, subst, ◌∙◌, inl, inr, arith}
+use Rattle.std.proofs.Common.{◌≡◌, ◌⊎◌, ◌+◌, ◌-◌, ◌^◌, ◌++◌, ℕ, false, List, [], length, take, drop, Some, Result, Ok, Err, refl, sym, ap, subst, ◌∙◌, inl, inr}
 use Rattle.std.specs.Prelude.{OnErr, IfOk}
 use Rattle.std.specs.Result.{result_err}
 use Rattle.chunk_memory.specs.declared.port.ChunkPort as port
 use Rattle.chunk_memory.specs.declared.stops.MemStop.{MemStop}
 use Rattle.fe_base.specs.ErrorNumbers.{error_number}
 use Rattle.fe_base.specs.MemoryMap.{user_start}
-use Rattle.fe_base.specs.Outside.{PutSuits, Rose, capacity}
+use Rattle.fe_base.specs.Outside.{Rose, capacity}
 use Rattle.fe_base.specs.declared.error_numbers.ErrNo.TheVariants.{EFAULT}
 use Rattle.fe_base.specs.declared.outside.Sink as sink
 use Rattle.fe_base.specs.declared.outside.Source as source
-use Rattle.folder_tree.specs.Tree.{Tree}
 use Rattle.folder_tree.specs.declared.folder.Folder as folder
 use Rattle.guest_memory.specs.Bus.{BusState, IsBus}
 use Rattle.guest_memory.specs.Memory.{with_part}
 use Rattle.host_text.specs.Causes.{played-later}
 use Rattle.host_text.specs.Outside.{HasRead, HasWritten, acts}
-use Rattle.host_text.specs.Played.{At, at, Played}
+use Rattle.host_text.specs.Played.{at, Played}
 use Rattle.host_text.specs.World.{Contents, World}
-use Rattle.host_text.specs.declared.open_numbers.Open.{Open}
-use Rattle.syscall_proxy.specs.CallLaws.{call_row-row, call_row-inside}
+use Rattle.syscall_proxy.specs.CallLaws.{call_row-row}
 use Rattle.syscall_proxy.specs.CallTable.{call_row}
 use Rattle.syscall_proxy.specs.HostLaws.{Unmoved, Late, NeverFell}
-use Rattle.syscall_proxy.specs.HostRow.{call-is-row}
+use Rattle.syscall_proxy.specs.HostRow.{Tells as Told, begin, call-is-row, call-meets-no-port, call-stops}
 use Rattle.syscall_proxy.specs.Kept.{Kept, HostState, kept}
 use Rattle.syscall_proxy.specs.RowShapes.{InUserArea}
 use Rattle.syscall_proxy.specs.declared.answers.CallAnswer.{CallAnswer}
 use Rattle.syscall_proxy.specs.declared.answers.CallAnswer.TheVariants.{Result as Value}
 use Rattle.syscall_proxy.specs.declared.answers.CallFault.{CallFault}
 use Rattle.syscall_proxy.specs.declared.answers.CallFault.TheVariants.{Port, FileFault, InputFault, ConsoleFault, OutOfMemory}
-use Rattle.plain_machine.specs.Asks.{Asked, row_asks, request_cuts}
-use Rattle.plain_machine.specs.Outsides.{Outside, outside, Called, Asking}
-use Rattle.plain_machine.specs.Rows.{IsInside, RowRan, step_result}
+use Rattle.plain_machine.specs.Asks.{needs_outside, row_asks, request_cuts}
+use Rattle.plain_machine.specs.Outsides.{outside, Called, Asking}
+use Rattle.plain_machine.specs.Rows.{IsInside, RowLed, RowRan, step_result}
 use Rattle.plain_machine.specs.Stands.{Tells, Spares}
 use Rattle.plain_machine.specs.declared.plain.PlainFault.{PlainFault}
 use Rattle.plain_machine.specs.declared.plain.PlainFault.TheVariants.{FileFault as FileStop, InputFault as InputStop, ConsoleFault as ConsoleStop, OutOfMemory as MemoryStop}
-use Rattle.plain_machine.proofs.BusRanges.{ReadOn, WrittenOn, got, written}
-use Rattle.plain_machine.proofs.Followed.{Did, did, served, tree-stays}
+use Rattle.plain_machine.proofs.BusRanges.{ReadOn, WrittenOn, got, no-read, no-write, written}
+use Rattle.plain_machine.proofs.Followed.{Did, did}
+use Rattle.plain_machine.proofs.Lone.{asks-none, lone-row}
 use Rattle.plain_machine.proofs.OnlyCalls.{call_row-only}
+use Rattle.plain_machine.proofs.Openings.{one-more}
 
 -- ---- a call's outcome and its step's
 
@@ -130,9 +130,23 @@ module _ {P F I C : Type 0} (p : port.Ghosts P) (f : folder.Ghosts F) (i : sourc
       let w = written (bus y) (bus y') place bytes m.0 fit (writes y y' place bytes (Ok tt) d) in
       (w.0, w.1 ∙ ap (λ (l : List ℕ). with_part l (place - user_start) bytes) m.1)
 
-  -- over told contents the port refuses nothing
-  never-port : (t : Tree) → f.tree folder ≡ Some t → (why : MemStop) → o ≡ Err (Port why) → ⊥
-  never-port t told why e = served p f i c bus reads writes t told (call_row-row old.given old.numbers request) (call_row-inside old.given old.numbers request inside) fits played why e
+  -- the port refuses no range of the user area
+  never_read : (y y' : P) (place count : ℕ) (why : MemStop) → InUserArea place count → HasRead p y y' place count (Err why) → ⊥
+  never_read y y' place count why fit d = no-read (bus y) (bus y') place count why fit (reads y y' place count (Err why) d)
+
+  never_write : (y y' : P) (place : ℕ) (bytes : List ℕ) (why : MemStop) → InUserArea place (length bytes) → HasWritten p y y' place bytes (Err why) → ⊥
+  never_write y y' place bytes why fit d = no-write (bus y) (bus y') place bytes why fit (writes y y' place bytes (Err why) d)
+
+  -- where the call begins, over told contents
+  abbrev Start : World → Type 0
+  Start w = Told p f i c Memory on_read on_write (at x folder input console (kept old.numbers false [])) (begin w (bus x).user)
+
+  starts : (contents : Contents) → Tells contents (i.left input) (c.held console) (f.tree folder) → Start (record { contents = contents; numbers = old.numbers })
+  starts contents told = record { memory_is = (fits, refl); tree_is = told.tree_told; input_is = told.input_told; console_is = told.console_told; kept_is = refl }
+
+  -- the port refuses the call nothing
+  never-port : (why : MemStop) → o ≡ Err (Port why) → ⊥
+  never-port why e = call-meets-no-port p f i c never_read never_write old.given old.numbers request why e inside played
 
   -- the row that was followed is the host's row
   pub row-ran : (contents : Contents) (answer : CallAnswer) → o ≡ Ok answer → Tells contents (i.left input) (c.held console) (f.tree folder)
@@ -140,7 +154,7 @@ module _ {P F I C : Type 0} (p : port.Ghosts P) (f : folder.Ghosts F) (i : sourc
   row-ran contents answer e told =
       let w : World = record { contents = contents; numbers = old.numbers } in
       let h = call-is-row p f i c Memory on_read on_write old.given request w (bus x).user answer e inside played
-      (record { memory_is = (fits, refl); tree_is = told.tree_told; input_is = told.input_told; console_is = told.console_told; kept_is = refl }) in
+      (starts contents told) in
       record {
         after = h.0;
         row = h.1;
@@ -153,11 +167,22 @@ module _ {P F I C : Type 0} (p : port.Ghosts P) (f : folder.Ghosts F) (i : sourc
       → IfOk r (λ answer. (contents : Contents) → Tells contents (i.left input) (c.held console) (f.tree folder) → RowRan old new request contents (bus x).user (bus x').user answer (i.left input') (c.held console') (f.tree folder'))
   made-or-not r e =
       if-okay (λ answer. (contents : Contents) → Tells contents (i.left input) (c.held console) (f.tree folder) → RowRan old new request contents (bus x).user (bus x').user answer (i.left input') (c.held console') (f.tree folder'))
-      o r e (λ answer h contents told. row-ran contents answer h told) (λ why h contents told. absurd (never-port contents.tree told.tree_told why h))
+      o r e (λ answer h contents told. row-ran contents answer h told) (λ why h contents told. absurd (never-port why h))
+
+  -- what a call that needs neither folder nor input comes to, whatever the objects tell
+  pub lone-or-not : (r : Result CallAnswer PlainFault) → r ≡ step_result o
+      → IfOk r (λ answer. needs_outside (row_asks old.numbers request (bus x).user) ≡ false → (contents : Contents) → RowLed old new request contents (bus x).user (bus x').user answer)
+  lone-or-not r e =
+      if-okay (λ answer. needs_outside (row_asks old.numbers request (bus x).user) ≡ false → (contents : Contents) → RowLed old new request contents (bus x).user (bus x').user answer) o r e
+      (λ answer h none contents.
+      let asks = asks-none old.numbers request (bus x).user none in
+      let row = lone-row p f i c Memory on_read on_write old.given request (record { contents = contents; numbers = old.numbers }) (bus x).user answer asks.0 asks.1 inside played h (fits, refl) refl in
+      record { after = row.0; row = row.1; user_is = row.2.1; numbers_is = ap (λ (k : Kept). k.numbers) row.3 })
+      (λ why h none contents. absurd (never-port why h))
 
   -- what the call did to the objects
   pub did-row : Did p f i c bus reads writes (row_asks old.numbers request (bus x).user) (at x folder input console (kept old.numbers false [])) (at x' folder' input' console' (kept new.numbers new.acted [])) o
-  did-row = did p f i c bus reads writes (row_asks old.numbers request (bus x).user) (request_cuts request) (call_row-row old.given old.numbers request)
+  did-row = did p f i c bus reads writes (row_asks old.numbers request (bus x).user) (call_row-row old.given old.numbers request)
       (call_row-only old.given old.numbers request (bus x).user inside) fits played
 
   module _ (unmoved : (fault : CallFault) → o ≡ Err fault
@@ -170,15 +195,22 @@ module _ {P F I C : Type 0} (p : port.Ghosts P) (f : folder.Ghosts F) (i : sourc
     pub same-numbers : (r : Result CallAnswer PlainFault) → r ≡ step_result o → OnErr r (new.numbers ≡ old.numbers)
     same-numbers r e = on-error (new.numbers ≡ old.numbers) o r e (λ fault h apart. ap (λ (k : Kept). k.numbers) (still fault h apart).kept)
 
-    pub spares : (r : Result CallAnswer PlainFault) → r ≡ step_result o
-        → OnErr r ((contents : Contents) → Tells contents (i.left input) (c.held console) (f.tree folder) → Spares (request_cuts request) contents (i.left input') (c.held console') (f.tree folder'))
-    spares r e = on-error ((contents : Contents) → Tells contents (i.left input) (c.held console) (f.tree folder) → Spares (request_cuts request) contents (i.left input') (c.held console') (f.tree folder'))
-        o r e (λ fault h apart contents told. record {
-          input_told = (still fault h apart).input contents.input told.input_told;
-          console_told = (still fault h apart).console contents.console told.console_told;
-          tree_stays = tree-stays p f i c bus reads writes (row_asks old.numbers request (bus x).user) (request_cuts request) contents.tree told.tree_told
-              (call_row-row old.given old.numbers request) (call_row-only old.given old.numbers request (bus x).user inside) fits played fault h apart;
-        })
+  -- a call that was not carried out leaves what is told, but for one open more
+  spared : (contents : Contents) → Tells contents (i.left input) (c.held console) (f.tree folder) → (fault : CallFault) → o ≡ Err fault
+      → Spares (request_cuts request) old.given.root contents (i.left input') (c.held console') (f.tree folder')
+  spared contents told fault e =
+      let w : World = record { contents = contents; numbers = old.numbers } in
+      let stops = call-stops p f i c Memory on_read on_write never_read never_write old.given request w (bus x).user fault e inside played (starts contents told) in
+      record {
+        input_told = stops.2.input_is;
+        console_told = stops.2.console_is;
+        tree_stays = one-more old.given request contents.tree stops.0 (f.tree folder') stops.2.tree_is stops.1;
+      }
+
+  pub spares : (r : Result CallAnswer PlainFault) → r ≡ step_result o
+      → OnErr r ((contents : Contents) → Tells contents (i.left input) (c.held console) (f.tree folder) → Spares (request_cuts request) old.given.root contents (i.left input') (c.held console') (f.tree folder'))
+  spares r e = on-error ((contents : Contents) → Tells contents (i.left input) (c.held console) (f.tree folder) → Spares (request_cuts request) old.given.root contents (i.left input') (c.held console') (f.tree folder'))
+      o r e (λ fault h apart contents told. spared contents told fault h)
 
   pub same-user : (r : Result CallAnswer PlainFault) → r ≡ step_result o → OnErr r ((bus x').user ≡ (bus x).user)
   same-user r e = on-error ((bus x').user ≡ (bus x).user) o r e (λ fault h apart. ap (λ (b : BusState). b.user) (did-row.memory fault h apart))

@@ -99,6 +99,13 @@ asks_input the_folder = false
 asks_input the_input = true
 asks_input (the_console bytes) = false
 
+-- what the folder or the input answers is needed
+abbrev pub needs_outside : Asked → Bool
+needs_outside nothing = false
+needs_outside the_folder = true
+needs_outside the_input = true
+needs_outside (the_console bytes) = false
+
 -- the bytes that are put on the console
 abbrev pub puts_of : Asked → List ℕ
 puts_of nothing = []

@@ -34,6 +34,15 @@ pub record RowRan (old new : HostState) (request : List ℕ) (contents : Content
   pub numbers_is : new.numbers ≡ after.kept.numbers
   pub told : Tells after.contents input console tree
 
+-- the same of the host and the user bytes alone, where nothing is told
+pub record RowLed (old new : HostState) (request : List ℕ) (contents : Contents) (user user_now : List ℕ)
+    (answer : CallAnswer) : Type 0 where
+  pub after : Place (List ℕ) Kept
+  pub row : host_row old.given request (record { contents = contents; numbers = old.numbers }) user
+      ≡ Some (record { answer = answer; place = after })
+  pub user_is : user_now ≡ after.memory
+  pub numbers_is : new.numbers ≡ after.kept.numbers
+
 -- what a call came to, as its step has it; memory that is refused is answered EFAULT
 abbrev pub step_result : Result CallAnswer CallFault → Result CallAnswer PlainFault
 step_result (Ok answer) = Ok answer

@@ -1,13 +1,13 @@
 // A program with its break, and the calls that it makes.
-ghost use Rattle.std.specs.Prelude.{◌≡◌, OnErr, OnOk, IfOk};
+ghost use Rattle.std.specs.Prelude.{◌≡◌, OnErr, IfOk, false};
 ghost use Rattle.std.specs.Result.{result_err};
 ghost use Rattle.host_text.specs.World.{Contents};
-ghost use Rattle.plain_machine.specs.Asks.{part_asks, part_cuts};
+ghost use Rattle.plain_machine.specs.Asks.{needs_outside, part_asks, part_cuts};
 ghost use Rattle.plain_machine.specs.Direct.{after_part};
 ghost use Rattle.plain_machine.specs.Machines.{machine_when};
 ghost use Rattle.plain_machine.specs.Outsides.{Asking, Called, InWorld, outside};
 ghost use Rattle.plain_machine.specs.Programs.{part_of};
-ghost use Rattle.plain_machine.specs.Stands.{Reaches, Spares, Tells};
+ghost use Rattle.plain_machine.specs.Stands.{MachineAt, Reaches, Spares, Tells};
 
 use crate::PlainFault;
 use crate::cpu::Cpu;
@@ -47,11 +47,17 @@ pub fn call<F: Folder, I: Source, C: Sink>(
         → Reaches (after_part host.old.given process.old (record { contents = c; numbers = host.old.numbers })
         (part_of process.old)) (machine_when process.new status) host.new.numbers (I.left input.new)
         (C.held console.new) (F.tree folder.new)) }
+    ensures lone { IfOk result (λ status.
+        needs_outside (part_asks host.old.numbers process.old.state.user (part_of process.old)) ≡ false
+        → (c : Contents) → MachineAt (after_part host.old.given process.old
+        (record { contents = c; numbers = host.old.numbers }) (part_of process.old))
+        (machine_when process.new status) host.new.numbers) }
     ensures kept { OnErr result (process.new ≡ process.old) }
     ensures numbers { OnErr result (host.new.numbers ≡ host.old.numbers) }
     ensures spared { OnErr result ((c : Contents)
         → Tells c (I.left input.old) (C.held console.old) (F.tree folder.old)
-        → Spares (part_cuts (part_of process.old)) c (I.left input.new) (C.held console.new) (F.tree folder.new)) }
+        → Spares (part_cuts (part_of process.old)) host.old.given.root c (I.left input.new) (C.held console.new)
+        (F.tree folder.new)) }
     ensures called { Called F.Folder I.Source C.Sink (outside folder.old input.old console.old)
         (outside folder.new input.new console.new) (result_err result) }
     ensures asking { Asking F.Folder I.Source C.Sink

@@ -7,10 +7,10 @@ ghost use Rattle.guest_memory.specs.Bus.{is_ram};
 ghost use Rattle.guest_memory.specs.Memory.{is_width, zeros};
 ghost use Rattle.rv_alu.specs.Effects.{IsInRange};
 ghost use Rattle.host_text.specs.World.{Contents};
-ghost use Rattle.plain_machine.specs.Asks.{request_cuts, row_asks};
+ghost use Rattle.plain_machine.specs.Asks.{needs_outside, request_cuts, row_asks};
 ghost use Rattle.plain_machine.specs.Outsides.{Asking, Called, InWorld, outside as objects};
 ghost use Rattle.plain_machine.specs.Programs.{answered};
-ghost use Rattle.plain_machine.specs.Rows.{IsInside, RowRan};
+ghost use Rattle.plain_machine.specs.Rows.{IsInside, RowLed, RowRan};
 ghost use Rattle.plain_machine.specs.Stands.{Spares, Tells};
 ghost use Rattle.plain_machine.specs.UserStep as spec;
 ghost use Rattle.plain_machine.specs.UserStep.{user_step, load_step, store_step, effect_step, step_of, Stays, walked};
@@ -165,11 +165,14 @@ impl Cpu {
             → Tells c (I.left input.old) (C.held console.old) (F.tree folder.old)
             → RowRan host.old host.new request c self.old.user self.new.user answer (I.left input.new)
             (C.held console.new) (F.tree folder.new)) }
+        ensures lone { IfOk result (λ answer. needs_outside (row_asks host.old.numbers request self.old.user) ≡ false
+            → (c : Contents) → RowLed host.old host.new request c self.old.user self.new.user answer) }
         ensures kept { OnErr result (self.new ≡ self.old) }
         ensures numbers { OnErr result (host.new.numbers ≡ host.old.numbers) }
         ensures spared { OnErr result ((c : Contents)
             → Tells c (I.left input.old) (C.held console.old) (F.tree folder.old)
-            → Spares (request_cuts request) c (I.left input.new) (C.held console.new) (F.tree folder.new)) }
+            → Spares (request_cuts request) host.old.given.root c (I.left input.new) (C.held console.new)
+            (F.tree folder.new)) }
         ensures called { Called F.Folder I.Source C.Sink (objects folder.old input.old console.old)
             (objects folder.new input.new console.new) (result_err result) }
         ensures asking { Asking F.Folder I.Source C.Sink

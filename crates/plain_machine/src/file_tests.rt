@@ -367,3 +367,40 @@ fn calls_by_their_results(rt: HostRuntime) -> Result<(), Fail> {
     }
     Ok(())
 }
+
+// Programs that open a path without an end, and exit with the negated result after so many steps: bytes of ones up to
+// the end of the user area, and 4096 bytes and more of ones.
+static ENDLESS: [(&'static [u32], u8, u64); 2] = [
+    (
+        &[
+            0x010105b7, 0xff658593, 0xfff00293, 0x0055b023, 0x00559423, 0xf9c00513, 0x03800893,
+            0x00000073, 0x40a00533, 0x05d00893, 0x00000073,
+        ],
+        14,
+        11,
+    ),
+    (
+        &[
+            0x000205b7, 0xfff00293, 0x00058313, 0x000013b7, 0x00b383b3, 0x00533023, 0x00830313,
+            0xfe736ce3, 0xf9c00513, 0x03800893, 0x00000073, 0x40a00533, 0x05d00893, 0x00000073,
+        ],
+        36,
+        1547,
+    ),
+];
+
+fn endless() -> &'static [(&'static [u32], u8, u64)] {
+    &ENDLESS
+}
+
+#[test]
+fn paths_without_an_end(rt: HostRuntime) -> Result<(), Fail> {
+    for (words, status, steps) in endless() {
+        let mut world = make_world(&rt, rt.alloc(), &[], &[], &[])?;
+        let mut plain = started(&rt, rt.alloc(), words)?;
+        let end = run(&mut plain, &mut world, 10_000);
+        assert_eq!(rt; end, PlainEnd::Exited(*status), "words {words:?}");
+        assert_eq!(rt; plain.steps(), *steps, "words {words:?}");
+    }
+    Ok(())
+}

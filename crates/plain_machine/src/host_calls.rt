@@ -12,9 +12,9 @@ ghost use Rattle.syscall_proxy.specs.HostLaws.{Late, NeverFell, Unmoved};
 ghost use Rattle.syscall_proxy.specs.Kept.{kept};
 ghost use Rattle.syscall_proxy.specs.Worlds.{IsWorldOf};
 ghost use Rattle.syscall_proxy.specs.declared.answers.CallFault.{CallFault as Fault};
-ghost use Rattle.plain_machine.specs.Asks.{request_cuts, row_asks};
+ghost use Rattle.plain_machine.specs.Asks.{needs_outside, request_cuts, row_asks};
 ghost use Rattle.plain_machine.specs.Outsides.{Asking, Called, InWorld, outside};
-ghost use Rattle.plain_machine.specs.Rows.{IsInside, RowRan, step_result};
+ghost use Rattle.plain_machine.specs.Rows.{IsInside, RowLed, RowRan, step_result};
 ghost use Rattle.plain_machine.specs.Stands.{Tells, Spares};
 
 use crate::PlainFault;
@@ -102,11 +102,14 @@ pub fn call_on<F: Folder, I: Source, C: Sink>(
         → Tells c (I.left input.old) (C.held console.old) (F.tree folder.old)
         → RowRan host.old host.new request c bus.old.user bus.new.user answer (I.left input.new) (C.held console.new)
         (F.tree folder.new)) }
+    ensures lone { IfOk result (λ answer. needs_outside (row_asks host.old.numbers request bus.old.user) ≡ false
+        → (c : Contents) → RowLed host.old host.new request c bus.old.user bus.new.user answer) }
     ensures kept { OnErr result (bus.new.user ≡ bus.old.user) }
     ensures numbers { OnErr result (host.new.numbers ≡ host.old.numbers) }
     ensures spared { OnErr result ((c : Contents)
         → Tells c (I.left input.old) (C.held console.old) (F.tree folder.old)
-        → Spares (request_cuts request) c (I.left input.new) (C.held console.new) (F.tree folder.new)) }
+        → Spares (request_cuts request) host.old.given.root c (I.left input.new) (C.held console.new)
+        (F.tree folder.new)) }
     ensures called { Called F.Folder I.Source C.Sink (outside folder.old input.old console.old)
         (outside folder.new input.new console.new) (result_err result) }
     ensures asking { Asking F.Folder I.Source C.Sink

@@ -5,10 +5,10 @@ ghost use Rattle.fe_base.specs.Outside.{capacity, HasCause, Puts, PutSuits};
 ghost use Rattle.host_text.specs.Outside.{HasPut};
 ghost use Rattle.host_text.specs.World.{Contents, World};
 ghost use Rattle.syscall_proxy.specs.Kept.{Setting};
-ghost use Rattle.plain_machine.specs.Asks.{step_asks, step_cuts};
+ghost use Rattle.plain_machine.specs.Asks.{needs_outside, step_asks, step_cuts};
 ghost use Rattle.plain_machine.specs.Direct.{machine_step, status_of, in_world, direct_after, moves_on};
 ghost use Rattle.plain_machine.specs.Outsides.{Asking, Called, InWorld, outside};
-ghost use Rattle.plain_machine.specs.Stands.{Reaches, Spares, Tells};
+ghost use Rattle.plain_machine.specs.Stands.{MachineAt, Reaches, Spares, Tells};
 
 use crate::PlainFault;
 use crate::calls::{Process, call};
@@ -119,11 +119,15 @@ impl Machine {
             → Tells c (I.left input.old) (C.held console.old) (F.tree folder.old)
             → Reaches (machine_step host.old.given self.old (record { contents = c; numbers = host.old.numbers }))
             self.new host.new.numbers (I.left input.new) (C.held console.new) (F.tree folder.new)) }
+        ensures lone { OnOk result (needs_outside (step_asks host.old.numbers self.old) ≡ false → (c : Contents)
+            → MachineAt (machine_step host.old.given self.old (record { contents = c; numbers = host.old.numbers }))
+            self.new host.new.numbers) }
         ensures kept { OnErr result (self.new ≡ self.old) }
         ensures numbers { OnErr result (host.new.numbers ≡ host.old.numbers) }
         ensures spared { OnErr result ((c : Contents)
             → Tells c (I.left input.old) (C.held console.old) (F.tree folder.old)
-            → Spares (step_cuts self.old) c (I.left input.new) (C.held console.new) (F.tree folder.new)) }
+            → Spares (step_cuts self.old) host.old.given.root c (I.left input.new) (C.held console.new)
+            (F.tree folder.new)) }
         ensures called { Called F.Folder I.Source C.Sink (outside folder.old input.old console.old)
             (outside folder.new input.new console.new) (result_err result) }
         ensures asking { Asking F.Folder I.Source C.Sink (step_asks host.old.numbers self.old)

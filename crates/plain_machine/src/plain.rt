@@ -70,11 +70,12 @@ impl Plain {
     ghost use Rattle.folder_tree.specs.Paths.{path_text};
     ghost use Rattle.folder_tree.specs.Tree.{IsWellFormed, Tree};
     ghost use Rattle.syscall_proxy.specs.Worlds.{IsWorldOf};
-    ghost use Rattle.plain_machine.specs.Asks.{asks_folder, asks_input, puts_of, step_cuts};
+    ghost use Rattle.plain_machine.specs.Asks.{asks_folder, asks_input, needs_outside, puts_of, step_cuts};
     ghost use Rattle.std.specs.Prelude.{true, false};
     ghost use Rattle.plain_machine.specs.Direct.{DirectState, direct_after, direct_step, ended, moves_on, status_of};
-    ghost use Rattle.plain_machine.specs.Stands.{HasRoomFor, IsAt, NeverAsks, NeverPuts, PlainRan, Spares, Tells};
-    ghost use Rattle.plain_machine.specs.Stands.{asks, direct_of, end_fault, first_state, made};
+    ghost use Rattle.plain_machine.specs.Stands.{HasRoomFor, IsAt, LoneRan, MachineAt, NeverAsks, NeverPuts, PlainRan};
+    ghost use Rattle.plain_machine.specs.Stands.{Spares, Tells};
+    ghost use Rattle.plain_machine.specs.Stands.{asks, direct_of, end_fault, first_state, made, tried};
 
     /// A program before its first step: its image and its arguments stand in the user area. The root is where the paths
     /// of its calls begin. It takes the memory of the machine, and of its host.
@@ -116,17 +117,21 @@ impl Plain {
             → Tells c (I.left input.old) (C.held console.old) (F.tree folder.old)
             → IsAt (direct_step self.old.given (direct_of self.old c)) self.new (I.left input.new) (C.held console.new)
             (F.tree folder.new)) }
+        // So it is, of machine and open numbers, whatever the objects tell, where it needs neither folder nor input.
+        ensures lone { OnOk result (needs_outside (asks self.old) ≡ false → (c : Contents)
+            → MachineAt (direct_step self.old.given (direct_of self.old c)) self.new.machine self.new.numbers) }
         ensures status { IfOk result (λ status. status ≡ status_of self.new.machine) }
         ensures counted { OnOk result (self.new.steps
             ≡ (if is_some (status_of self.old.machine) then self.old.steps else self.old.steps + 1)) }
         ensures given { self.new.given ≡ self.old.given }
 
         // A fault leaves the machine, its open numbers and what the objects tell; but an openat that takes a file's
-        // bytes away may leave the file open once more.
+        // bytes away may leave that file, which stands below the root, open once more.
         ensures kept { OnErr result (self.new ≡ self.old) }
         ensures spared { OnErr result ((c : Contents)
             → Tells c (I.left input.old) (C.held console.old) (F.tree folder.old)
-            → Spares (step_cuts self.old.machine) c (I.left input.new) (C.held console.new) (F.tree folder.new)) }
+            → Spares (step_cuts self.old.machine) self.old.given.root c (I.left input.new) (C.held console.new)
+            (F.tree folder.new)) }
 
         // The causes of faults and what steady objects do; what the step asks of the objects, and that it touches no
         // other; and that a world stays one.
@@ -158,6 +163,11 @@ impl Plain {
         ensures ran { (first : DirectState)
             → IsAt first self.old (I.left input.old) (C.held console.old) (F.tree folder.old)
             → PlainRan first self.old self.new result (I.left input.new) (C.held console.new) (F.tree folder.new) }
+        // Whatever the objects tell, a run none of whose steps needs folder or input, the step in which a fault came among
+        // them, is the direct run of machine and open numbers, and leaves folder and input as they were.
+        ensures lone { (c : Contents)
+            → NeverAsks needs_outside self.old.given (direct_of self.old c) (tried result (made self.old self.new))
+            → LoneRan (direct_of self.old c) self.old self.new × (folder.new ≡ folder.old) × (input.new ≡ input.old) }
         ensures given { self.new.given ≡ self.old.given }
         ensures later { self.old.steps ≤ self.new.steps }
         ensures within { self.new.steps ≤ max limit self.old.steps }
@@ -179,16 +189,18 @@ impl Plain {
         ensures input_asked { result ≡ PlainEnd.Fault PlainFault.InputFault → asks_input (asks self.new) ≡ true }
         ensures console_asked { result ≡ PlainEnd.Fault PlainFault.ConsoleFault → puts_of (asks self.new) ≢ [] }
 
-        // What none of the steps asks is as it was, the step that was not made among them.
+        // What none of the steps asks is as it was, the step in which a fault came among them.
         ensures folder_untouched { (first : DirectState)
             → IsAt first self.old (I.left input.old) (C.held console.old) (F.tree folder.old)
-            → NeverAsks asks_folder self.old.given first (made self.old self.new) → folder.new ≡ folder.old }
+            → NeverAsks asks_folder self.old.given first (tried result (made self.old self.new))
+            → folder.new ≡ folder.old }
         ensures input_untouched { (first : DirectState)
             → IsAt first self.old (I.left input.old) (C.held console.old) (F.tree folder.old)
-            → NeverAsks asks_input self.old.given first (made self.old self.new) → input.new ≡ input.old }
+            → NeverAsks asks_input self.old.given first (tried result (made self.old self.new))
+            → input.new ≡ input.old }
         ensures console_untouched { (first : DirectState)
             → IsAt first self.old (I.left input.old) (C.held console.old) (F.tree folder.old)
-            → NeverPuts self.old.given first (made self.old self.new) → console.new ≡ console.old }
+            → NeverPuts self.old.given first (tried result (made self.old self.new)) → console.new ≡ console.old }
 
         // A steady console fails no run for which its room suffices: the room for what the direct run has put after one
         // step more than were made.

@@ -1,6 +1,6 @@
 -- From how a run on the direct machine ended to what the top call says of it.
-use Rattle.std.proofs.Common.{◌≡◌, ◌≢◌, ◌≤◌, ◌<◌, ◌+◌, ◌-◌, ◌⊎◌, ◌↔◌, ◌==◌, ◌&&◌, ◌||◌, inl, inr, ℕ, Bool, true, false, List, [], length, Option, Some, None, refl, ap, sym, subst, ◌∙◌, arith}
-use Rattle.std.proofs.lemmas.Bool.{eqb-true}
+use Rattle.std.proofs.Common.{◌≡◌, ◌≢◌, ◌≤◌, ◌<◌, ◌+◌, ◌-◌, ◌⊎◌, ◌↔◌, ◌==◌, ◌&&◌, ◌||◌, if◌then◌else◌, inl, inr, ℕ, Bool, true, false, List, [], length, Option, Some, None, refl, ap, sym, subst, ◌∙◌, arith}
+use Rattle.std.proofs.lemmas.Bool.{eqb-true, false≢true}
 use Rattle.elf_loader.specs.declared.image.Image.{Image}
 use Rattle.fe_base.specs.Outside.{Rose}
 use Rattle.fe_base.specs.declared.outside.Sink as sink
@@ -14,12 +14,13 @@ use Rattle.host_text.specs.declared.open_numbers.Open.{Open}
 use Rattle.syscall_proxy.specs.Kept.{Setting}
 use Rattle.syscall_proxy.specs.OpenFlags.{cuts}
 use Rattle.syscall_proxy.specs.Rows.{low, word}
+use Rattle.syscall_proxy.specs.Streams.{StandsBelow}
 use Rattle.plain_machine.specs.Asks.{Asked, the_folder, asks_by, asks_folder, asks_input, part_asks, part_cuts, puts_of, request_cuts, row_asks, step_asks, step_cuts, user_asks, user_cuts}
 use Rattle.plain_machine.specs.Direct.{DirectState, Machine, running, dying, ended, direct_after, direct_after-zero, status_of}
 use Rattle.plain_machine.specs.KernelPart.{Part, gives, breaks, posts, scans}
 use Rattle.plain_machine.specs.Outsides.{Outside}
 use Rattle.plain_machine.specs.Programs.{Process, part_of}
-use Rattle.plain_machine.specs.Stands.{HasFiles, HasRoomFor, IsAt, Leaves, NeverAsks, NeverPuts, PlainRan, PlainState, Spares, Tells, TreeStays, asks, end_opens, first_state, made}
+use Rattle.plain_machine.specs.Stands.{HasFiles, HasRoomFor, IsAt, Leaves, NeverAsks, NeverPuts, PlainRan, PlainState, Spares, Tells, TreeStays, asks, end_opens, first_state, made, tried}
 use Rattle.plain_machine.specs.Starts.{direct_start, setting_of, state_after}
 use Rattle.plain_machine.specs.UserStep.{UserStep, next, call, trap, user_step}
 use Rattle.plain_machine.specs.declared.plain.PlainFault.TheVariants.{FileFault as FileStop, InputFault as InputStop, ConsoleFault as ConsoleStop, OutOfMemory as MemoryStop}
@@ -30,7 +31,7 @@ use Rattle.spike_front.specs.declared.answer.Answer.TheVariants.{Exited, StepsSp
 use Rattle.spike_front.specs.Answers.{IsRunAnswer, IsStop, Stage, is_stopped}
 use Rattle.spike_front.specs.FoundFiles.{StaysOrOpens}
 use Rattle.spike_front.specs.Plans.{run}
-use Rattle.spike_front.specs.Runs.{IsTimely, LeavesUnasked, PlainRun, RunCase, answer_of, asked_after, case_of, may_open}
+use Rattle.spike_front.specs.Runs.{IsTimely, LeavesUnasked, PlainRun, RunCase, answer_of, asked_after, case_of, may_open, opens_under, tried_for}
 use Rattle.spike_front.proofs.Choices.{and_left}
 use Rattle.spike_front.proofs.Stages.{run_answer, other_stage, stop_of_run}
 
@@ -120,19 +121,38 @@ opens_told limit steps machine (EndFault InputStop) input console h = absurd (in
 opens_told limit steps machine (EndFault ConsoleStop) input console h = absurd (console refl h)
 opens_told limit steps machine (EndFault MemoryStop) input console h = or_right (steps == 0) (step_cuts machine) h
 
-tree_spared : (b d : Bool) (t : Tree) (told : Option Tree) → (b ≡ true → d ≡ true) → TreeStays b t told → TreeStays d t told
-tree_spared true d t told more stays = subst (λ (e : Bool). TreeStays e t told) (sym (more refl)) stays
-tree_spared false true t told more stays = inl stays
-tree_spared false false t told more stays = stays
+-- how many steps were tried, by the answer
+tried_by : (limit : ℕ) (end : PlainEnd) (steps : ℕ) → tried end steps ≡ tried_for (answer_of limit end) steps
+tried_by limit (EndExited status) steps = refl
+tried_by limit EndSpent steps = refl
+tried_by limit (EndFault FileStop) steps = refl
+tried_by limit (EndFault InputStop) steps = refl
+tried_by limit (EndFault ConsoleStop) steps = refl
+tried_by limit (EndFault MemoryStop) steps = refl
+
+pub tried_same : (limit : ℕ) (end : PlainEnd) (answer : Answer) (m n : ℕ) → answer ≡ answer_of limit end → m ≡ n → tried end m ≡ tried_for answer n
+tried_same limit end answer m n said same = ap (tried end) same ∙ tried_by limit end n ∙ ap (λ (a : Answer). tried_for a n) (sym said)
+
+-- a path below a root stands below that of an answer
+under : (b : Bool) (root path : Parts) → StandsBelow root path → StandsBelow (if b then [] else root) path
+under true root path below = (path, refl)
+under false root path below = below
+
+tree_spared : (b d e : Bool) (root : Parts) (t : Tree) (told : Option Tree) → (b ≡ true → d ≡ true) → TreeStays b root t told → TreeStays d (if e then [] else root) t told
+tree_spared true true e root t told more (inl same) = inl same
+tree_spared true true e root t told more (inr (path, number, below, at, is)) = inr (path, number, under e root path below, at, is)
+tree_spared true false e root t told more stays = absurd (false≢true (more refl))
+tree_spared false true e root t told more stays = inl stays
+tree_spared false false e root t told more stays = stays
 
 -- what is spared stays spared where more may be open
-spared_as : (b d : Bool) (contents now : Contents) {input console : Option (List ℕ)} {tree : Option Tree} → contents ≡ now → (b ≡ true → d ≡ true)
-    → Spares b contents input console tree → Spares d now input console tree
-spared_as b d contents now {input} {console} {tree} same more spared =
-    subst (λ (c : Contents). Spares d c input console tree) same (record {
+spared_as : (b d : Bool) (steps : ℕ) (root : Parts) (contents now : Contents) {input console : Option (List ℕ)} {tree : Option Tree} → contents ≡ now → (b ≡ true → d ≡ true)
+    → Spares b root contents input console tree → Spares d (opens_under steps root) now input console tree
+spared_as b d steps root contents now {input} {console} {tree} same more spared =
+    subst (λ (c : Contents). Spares d (opens_under steps root) c input console tree) same (record {
       input_told = spared.input_told;
       console_told = spared.console_told;
-      tree_stays = tree_spared b d contents.tree tree more spared.tree_stays;
+      tree_stays = tree_spared b d (steps == 0) root contents.tree tree more spared.tree_stays;
     })
 
 -- so many steps of the direct run, in other words
@@ -187,7 +207,8 @@ module _ (c : RunCase) (old new : PlainState) (end : PlainEnd) (steps : ℕ) {in
             (λ h. said ∙ ap (answer_of c.limit) ((ran.ran.exited status).1 (ap (λ (s : DirectState). s.machine) there ∙ h))),
           );
         };
-        spared = spared_as (end_opens end new.machine) _ _ _ (ap (λ (s : DirectState). s.world.contents) there) opens ran.spared;
+        spared = spared_as (end_opens end new.machine) _ steps c.start.root _ _ (ap (λ (s : DirectState). s.world.contents) there) opens
+            (subst (λ (g : Setting). Spares (end_opens end new.machine) g.root (direct_after old.given (made old new) (direct_start c.start)).world.contents input console tree) given ran.spared);
         within = omega (arith, within, all);
         spent = λ n. (
           (λ h.
@@ -224,10 +245,10 @@ pub room_for : (all : Option ℕ) (given other : Setting) (m n : ℕ) (first : D
 room_for all given other m n first same steps room =
     subst (λ (s : DirectState). HasRoomFor all (length s.world.contents.console)) (sym (state_same given other (m + 1) (n + 1) first same (ap (λ (k : ℕ). k + 1) steps))) room
 
--- what stays or opens leaves a tree that may be open once more
-tree_opened : (t : Tree) (told : Option Tree) → StaysOrOpens t told → TreeStays true t told
+-- what stays or opens leaves a tree that may be open once more, of any file
+tree_opened : (t : Tree) (told : Option Tree) → StaysOrOpens t told → TreeStays true [] t told
 tree_opened t told (inl same) = inl same
-tree_opened t told (inr (path, number, at, is)) = inr (number, is)
+tree_opened t told (inr (path, number, at, is)) = inr (path, number, (path, refl), at, is)
 
 -- what ended before its first step leaves what it began with
 pub stopped_run : (c : RunCase) (e : Answer) {input console : Option (List ℕ)} {tree : Option Tree} → 0 < c.limit → IsStop e
@@ -245,8 +266,8 @@ stopped_run c e {input} {console} {tree} some stop input_told console_told files
           (λ h. let never = sym (ap (λ (s : DirectState). s.machine) first) ∙ h in absurd cc),
         );
       };
-      spared = subst (λ (b : Bool). Spares b (state_after 0 c.start).world.contents input console tree) (sym may)
-          (subst (λ (s : DirectState). Spares true s.world.contents input console tree) (sym first)
+      spared = subst (λ (b : Bool). Spares b [] (state_after 0 c.start).world.contents input console tree) (sym may)
+          (subst (λ (s : DirectState). Spares true [] s.world.contents input console tree) (sym first)
           (record { input_told = input_told; console_told = console_told; tree_stays = tree_opened c.start.contents.tree tree opens }));
       within = omega arith;
       spent = λ n. ((λ h. absurd (other_stage e (StepsSpent n) stop (λ is. cc) h)), (λ h. absurd (omega (arith, some, h.1))));
@@ -279,9 +300,9 @@ case_same c image args root limit e =
 pub run_as : (c d : RunCase) (answer : Answer) (steps : ℕ) {input console : Option (List ℕ)} {tree : Option Tree} → c ≡ d → PlainRun c answer steps input console tree → PlainRun d answer steps input console tree
 run_as c d answer steps {input} {console} {tree} same ran = subst (λ (e : RunCase). PlainRun e answer steps input console tree) same ran
 
-pub unasked_as : {F I C : Type 0} {f : folder.Ghosts F} {i : source.Ghosts I} {k : sink.Ghosts C} {old new : Outside F I C} (c d : RunCase) (steps : ℕ)
-    → c ≡ d → LeavesUnasked f i k c old new steps → LeavesUnasked f i k d old new steps
-unasked_as {F} {I} {C} {f} {i} {k} {old} {new} c d steps same left = subst (λ (e : RunCase). LeavesUnasked f i k e old new steps) same left
+pub unasked_as : {F I C : Type 0} {f : folder.Ghosts F} {i : source.Ghosts I} {k : sink.Ghosts C} {old new : Outside F I C} (c d : RunCase) (answer : Answer) (steps : ℕ)
+    → c ≡ d → LeavesUnasked f i k c old new answer steps → LeavesUnasked f i k d old new answer steps
+unasked_as {F} {I} {C} {f} {i} {k} {old} {new} c d answer steps same left = subst (λ (e : RunCase). LeavesUnasked f i k e old new answer steps) same left
 
 -- a count that rose behind another place rose from there
 pub rose_from : (a b n : ℕ) → a ≤ b → Rose b n → Rose a n

@@ -1,6 +1,6 @@
 -- What a run of `plain` leaves and answers, by the direct run.
 use Rattle.std.specs.Prelude.{◌≡◌, ◌≢◌, ◌≤◌, ◌<◌, ◌+◌, ◌↔◌, ◌==◌, ◌&&◌, ◌||◌, ℕ, Bool, true, List, [], length, Option}
-use Rattle.std.specs.Prelude.{None, Some}
+use Rattle.std.specs.Prelude.{None, Some, if◌then◌else◌}
 use Rattle.elf_loader.specs.declared.image.Image.{Image}
 use Rattle.fe_base.specs.Outside.{capacity}
 use Rattle.fe_base.specs.declared.outside.Sink as sink
@@ -55,12 +55,24 @@ asked_after steps start = step_asks (state_after steps start).world.numbers (sta
 abbrev pub may_open : Answer → ℕ → Machine → Bool
 may_open answer steps machine = is_stop answer && (steps == 0 || step_cuts machine)
 
+-- where that file stands: anywhere before the first step, where the files of the words are read, and then below the
+-- program's root
+abbrev pub opens_under : ℕ → Parts → Parts
+opens_under steps root = if steps == 0 then [] else root
+
+-- how many steps were tried where so many were made: where no end of the program or of the steps is answered, one more,
+-- which was not made
+abbrev pub tried_for : Answer → ℕ → ℕ
+tried_for (Exited status) steps = steps
+tried_for (StepsSpent n) steps = steps
+tried_for _ steps = steps + 1
+
 -- A run of `plain` has this answer after so many steps: it leaves what every run leaves, and of input, console and tree
 -- all that the direct run has there, but for one open more; and it comes to its limit where the answer says so.
 pub record PlainRun (c : RunCase) (answer : Answer) (steps : ℕ) (input console : Option (List ℕ)) (tree : Option Tree)
     : Type 0 where
   pub ran : RanOf c.start steps (λ status. answer ≡ Exited status) input console tree
-  pub spared : Spares (may_open answer steps (state_after steps c.start).machine)
+  pub spared : Spares (may_open answer steps (state_after steps c.start).machine) (opens_under steps c.start.root)
       (state_after steps c.start).world.contents input console tree
   pub within : steps ≤ c.limit
   pub spent : (n : ℕ) → (answer ≡ StepsSpent n) ↔ ((n ≡ c.limit) × (steps ≡ c.limit)
@@ -96,10 +108,12 @@ module _ {F I C : Type 0} (f : folder.Ghosts F) (i : source.Ghosts I) (c : sink.
     pub input : i.steady old.input → answer ≡ InputFault → ⊥
     pub console : ConsoleSuits d old.console steps answer
 
-  -- the input and the console are as they were where none of the steps asks them, the step that was not made among them
-  pub record LeavesUnasked (d : RunCase) (old new : Outside F I C) (steps : ℕ) : Type 0 where
-    pub input : NeverAsks asks_input (setting_of d.start) (direct_start d.start) steps → new.input ≡ old.input
-    pub console : NeverPuts (setting_of d.start) (direct_start d.start) steps → new.console ≡ old.console
+  -- the input and the console are as they were where none of the steps that were tried asks them
+  pub record LeavesUnasked (d : RunCase) (old new : Outside F I C) (answer : Answer) (steps : ℕ) : Type 0 where
+    pub input : NeverAsks asks_input (setting_of d.start) (direct_start d.start) (tried_for answer steps)
+        → new.input ≡ old.input
+    pub console : NeverPuts (setting_of d.start) (direct_start d.start) (tried_for answer steps)
+        → new.console ≡ old.console
 
   -- A run that the words ask for is answered so, and a report that was told one text tells another: before the report
   -- there is one answer after so many steps. It is a run of `plain`, and the report tells its steps; each of its faults
@@ -114,7 +128,7 @@ module _ {F I C : Type 0} (f : folder.Ghosts F) (i : source.Ghosts I) (c : sink.
     pub timely : IsTimely d answer steps
     pub causes : HasRunCauses old new answer steps
     pub calm : IsCalm d old answer steps
-    pub unasked : LeavesUnasked d old new steps
+    pub unasked : LeavesUnasked d old new answer steps
 
 -- how what stopped a run is answered
 abbrev pub answer_of_stop : PlainFault → Answer

@@ -190,7 +190,7 @@ fn command<I: Source, C: Sink, F: Folder>(
         (outside folder.new input.new console.new) result.answer steps
         × ConsoleSuits F.Folder I.Source C.Sink c console.old steps result.answer
         × LeavesUnasked F.Folder I.Source C.Sink c (outside folder.old input.old console.old)
-        (outside folder.new input.new console.new) steps }
+        (outside folder.new input.new console.new) result.answer steps }
     ensures answers { MayAnswer (command_of words.now) result.answer }
     ensures no_report { result.answer ≡ Answer.ReportFault → ⊥ }
     ensures opens { (t : Tree) → IsWellFormed t → F.tree folder.old ≡ Some t

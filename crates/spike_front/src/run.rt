@@ -45,7 +45,8 @@ pub fn run_program<I: Source, C: Sink, F: Folder>(
         → IsTimely (case_of image args.now root contents limit) result.answer result.steps }
     ensures unasked { (contents : Contents) → Tells contents (I.left input.old) (C.held console.old) (F.tree folder.old)
         → LeavesUnasked F.Folder I.Source C.Sink (case_of image args.now root contents limit)
-        (outside folder.old input.old console.old) (outside folder.new input.new console.new) result.steps }
+        (outside folder.old input.old console.old) (outside folder.new input.new console.new) result.answer
+        result.steps }
     ensures suits { (contents : Contents) → Tells contents (I.left input.old) (C.held console.old) (F.tree folder.old)
         → ConsoleSuits F.Folder I.Source C.Sink (case_of image args.now root contents limit) console.old result.steps
         result.answer }

@@ -154,7 +154,10 @@ fn files_are_written(rt: HostRuntime) -> Result<(), Fail> {
     // The calls before the run are six. Of the program, openat asks for a kind and opens, and write asks for the size.
     let fault = (Answer::FileFault, "pkfe: file fault after 5 steps\n");
     appends(&rt, alloc, &below, &[6], fault, (b"ab", b"cd"))?;
+    appends(&rt, alloc, &below, &[7], fault, (b"ab", b"cd"))?;
     let fault = (Answer::FileFault, "pkfe: file fault after 8 steps\n");
     appends(&rt, alloc, &["plain", "p"], &[8], fault, (b"ab", b"cd"))?;
-    appends(&rt, alloc, &below, &[9], fault, (b"ab", b"cd"))
+    appends(&rt, alloc, &below, &[9], fault, (b"ab", b"cd"))?;
+    // There is no eleventh call.
+    appends(&rt, alloc, &below, &[10], exited, (b"ab", b"cdlog"))
 }

@@ -1,4 +1,4 @@
-use Rattle.std.proofs.Common.{◌≡◌, ◌<◌, ◌≤◌, ◌∙◌, false, ap, refl, arith, Some}
+use Rattle.std.proofs.Common.{◌≤◌, ◌∙◌, false, ap, refl, arith, Some}
 use Rattle.std.proofs.lemmas.Bool.{ne_eqb}
 use Rattle.plain_machine.specs.KernelPart.{greatest_path}
 use Rattle.plain_machine.proofs.Parts.{leaves-at, ends-at, on-at, long-at}

@@ -200,7 +200,7 @@ returns-in-Ok-Run-clause-ran g c = λ d asks.
     let known = c.run_program-end.ensures in
     let answer = c.run_program-end.result.answer in
     let steps = c.run_program-end.result.steps in
-    let unasked = unasked_as _ d steps same (known.unasked d.start.contents read) in (
+    let unasked = unasked_as _ d answer steps same (known.unasked d.start.contents read) in (
       steps,
       refl,
       run_as _ d answer steps same (known.ran d.start.contents read),

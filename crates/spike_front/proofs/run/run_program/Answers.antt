@@ -9,7 +9,7 @@ use Rattle.spike_front.specs.declared.answer.Answer.TheVariants.{OutOfMemory}
 use Rattle.spike_front.specs.Answers.{IsRunAnswer}
 use Rattle.spike_front.specs.Runs.{case_of}
 use Rattle.spike_front.proofs.Stages.{run_answer}
-use Rattle.spike_front.proofs.Endings.{asks_there, begun, console_back, file_back, input_back, made_all, memory_back, never_asked, never_put, plain_run, room_for, spent_back, stopped_run, stopped_timely}
+use Rattle.spike_front.proofs.Endings.{asks_there, begun, console_back, file_back, input_back, made_all, memory_back, never_asked, never_put, plain_run, room_for, spent_back, stopped_run, stopped_timely, tried_same}
 use Rattle.spike_front.proofs.run.run_program.Goals as goal
 
 -- where there was no memory for the start
@@ -74,10 +74,11 @@ returns-clause-unasked g c = λ contents told.
     let given : first.given ≡ setting_of d.start = ap (λ (p : PlainState). p.given) c.in-Ok.ensures.first in
     let none : first.steps ≡ 0 = ap (λ (p : PlainState). p.steps) c.in-Ok.ensures.first in
     let all : made first last ≡ c.steps.result = made_all first last c.steps.result none c.steps.ensures in
+    let tries = tried_same c.args.limit c.run-end.result c.answer_of.result (made first last) c.steps.result c.answer_of.ensures all in
     let at = begun d first c.in-Ok.ensures.first told in
     record {
-      input = λ never. c.run-end.ensures.input_untouched _ at (never_asked asks_input first.given (setting_of d.start) (made first last) c.steps.result (direct_start d.start) given all never);
-      console = λ never. c.run-end.ensures.console_untouched _ at (never_put first.given (setting_of d.start) (made first last) c.steps.result (direct_start d.start) given all never);
+      input = λ never. c.run-end.ensures.input_untouched _ at (never_asked asks_input first.given (setting_of d.start) _ _ (direct_start d.start) given tries never);
+      console = λ never. c.run-end.ensures.console_untouched _ at (never_put first.given (setting_of d.start) _ _ (direct_start d.start) given tries never);
     }
 
 pub returns-clause-suits : goal.returns-clause-suits

@@ -1,4 +1,4 @@
-use Rattle.std.proofs.Common.{◌≡◌, ◌∙◌, Some, sym, ap, rules}
+use Rattle.std.proofs.Common.{◌≡◌, ◌∙◌, Some, sym, refl, rules}
 use Rattle.std.specs.Result.{result_err}
 use Rattle.host_text.specs.World.{Contents}
 use Rattle.plain_machine.specs.Asks.{step_cuts}
@@ -11,8 +11,8 @@ use Rattle.plain_machine.proofs.machine.Machine.step.Goals as goal
 pub returns-in_err-status-in-Called-clause-spared : goal.returns-in_err-status-in-Called-clause-spared
 returns-in_err-status-in-Called-clause-spared g c =
     let h : (contents : Contents) → Tells contents (g.I.Source.left c.args.input.now) (g.C.Sink.held c.args.console.now) (g.F.Folder.tree c.args.folder.now)
-    → Spares (step_cuts c.args.self.now) contents (g.I.Source.left c.call.new.input) (g.C.Sink.held c.call.new.console) (g.F.Folder.tree c.call.new.folder) =
-    λ contents told. moved-spares (c.in_err-status-in-Called.ensures.spared contents told) (step_cuts c.args.self.now) (search rules) in
+    → Spares (step_cuts c.args.self.now) c.args.host.now.given.root contents (g.I.Source.left c.call.new.input) (g.C.Sink.held c.call.new.console) (g.F.Folder.tree c.call.new.folder) =
+    λ contents told. moved-spares (c.in_err-status-in-Called.ensures.spared contents told) (step_cuts c.args.self.now) c.args.host.now.given.root (search rules) refl in
     on-any _ _ h
 
 pub returns-in_err-map_err-in-Some-first-clause-in_world : goal.returns-in_err-map_err-in-Some-first-clause-in_world
