@@ -1,0 +1,9 @@
+pub mod HandSteps
+pub mod Placed
+pub mod WordHands
+pub mod ServeHands
+pub mod GiveHands
+pub mod TurnsMade
+pub mod TextTurns
+pub mod SessionsMade
+pub mod SeenSessions
