@@ -82,7 +82,8 @@ TextsAreSessions =
 -- A session that was made over a target behind a line was made over what is seen of it.
 abbrev pub SessionsAreSeen : Type 0
 SessionsAreSeen =
-    (given : Setting) (ranges : List Range) (turns : ℕ) (s now : TetherState) (r : Result Turned MailFault) (last : Book)
+    (given : Setting) (ranges : List Range) (turns : ℕ) (s now : TetherState) (r : Result Turned MailFault)
+    (last : Book)
     → IsDirectLine s.port → SessionMade line_acts line_hart given ranges turns s r last now
     → SessionMade seen_acts (λ (sys : System). sys.hart) given ranges turns (seen_at s) r last (seen_at now)
 
