@@ -194,6 +194,8 @@ fn try_walks(rt: &impl Print, trial: &mut Trial, counts: &mut Counts) -> io::Res
     trial.begin(NONE_FAILS, ROOM)?;
     counts.note(rt, "far places", walks::far_places(trial))?;
     trial.begin(NONE_FAILS, ROOM)?;
+    counts.note(rt, "a gap", walks::gap(trial))?;
+    trial.begin(NONE_FAILS, ROOM)?;
     counts.note(rt, "the lowest number", walks::lowest_number(trial))?;
     trial.begin(NONE_FAILS, ROOM)?;
     counts.note(rt, "many numbers", walks::many_numbers(trial))

@@ -1,7 +1,9 @@
 // Calls that follow each other, with the result of each: places, appending, removal, and numbers that are free again.
 
 use crate::trial::Trial;
-use crate::words::{A_FILE, BUFFER, EBADF, EFBIG, EMFILE, ENOENT, HERE, NO_PARENT, TEXT, W_FILE};
+use crate::words::{
+    A_FILE, BUFFER, EBADF, EFBIG, EINVAL, EMFILE, ENOENT, ESPIPE, HERE, NO_PARENT, TEXT, W_FILE,
+};
 use syscall_proxy::CallAnswer;
 
 /// A call and its result.
@@ -61,6 +63,16 @@ static FAR: [Step; 9] = [
     Step([62, 3, 0, 1, 0, 0], (1 << 63) - 1),
 ];
 
+/// What is written behind a file's end leaves zeros between.
+static GAP: [Step; 6] = [
+    Step([56, HERE, W_FILE, 3, 2, 0], 3),
+    Step([62, 3, u64::MAX, 0, 0, 0], EINVAL),
+    Step([62, 0, 0, 1, 0, 0], ESPIPE),
+    Step([62, 3, 13, 0, 0, 0], 13),
+    Step([64, 3, TEXT, 1, 0, 0], 1),
+    Step([46, 3, 268_435_457, 0, 0, 0], EFBIG),
+];
+
 /// The lowest number that is free is taken, the standard ones too.
 static LOWEST: [Step; 9] = [
     Step([57, 1, 0, 0, 0, 0], 0),
@@ -112,6 +124,16 @@ pub fn removal(trial: &mut Trial) -> Result<(), &'static str> {
 pub fn far_places(trial: &mut Trial) -> Result<(), &'static str> {
     agree(trial, &FAR)?;
     if trial.has_file(b"d/w", b"0123456789") {
+        Ok(())
+    } else {
+        Err("other bytes")
+    }
+}
+
+/// A place behind a file's end, and a byte there.
+pub fn gap(trial: &mut Trial) -> Result<(), &'static str> {
+    agree(trial, &GAP)?;
+    if trial.has_file(b"d/w", b"0123456789\0\0\0H") {
         Ok(())
     } else {
         Err("other bytes")
